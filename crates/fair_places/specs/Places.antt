@@ -18,8 +18,9 @@ free state = state.most - sum state.held
 abbrev pub owed_places : PlacesState → ℕ
 owed_places state = sum_by (λ held. state.reserve - held) state.held
 
--- The holder may take one more place: it holds less than its reserve, or a place is free that is owed
--- to nobody. To one that holds its reserve nothing is owed, so what is owed is owed to the others.
+-- The holder may take one more place: it holds less than its reserve, or a place is free that is
+-- owed to nobody. To one that holds its reserve nothing is owed, so what is owed is owed to the
+-- others.
 abbrev pub MayTake : ℕ → PlacesState → Type 0
 MayTake holder state = (held_by state holder < state.reserve) ⊎ (owed_places state < free state)
 

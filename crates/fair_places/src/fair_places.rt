@@ -28,7 +28,8 @@ impl Model for FairPlaces {
 }
 
 impl FairPlaces {
-    /// Returns this many places, of which none is held and `reserve` are kept for each of the holders.
+    /// Returns this many places, of which none is held and `reserve` are kept for each of the
+    /// holders.
     ///
     /// Returns an error if memory runs out.
     pub fn new(
@@ -71,7 +72,8 @@ impl FairPlaces {
         self.claimed < self.most
     }
 
-    /// Returns whether a holder may take one more place. One that isn't among the holders holds none.
+    /// Returns whether a holder may take one more place. One that isn't among the holders holds
+    /// none.
     pub fn may_take(&self, holder: usize) -> bool
         ensures { IsTrue result ↔ MayTake holder self.now }
     {

@@ -1,20 +1,26 @@
--- How long something that waits in a flow waits at most: what is charged to each other flow meanwhile.
+-- How long something that waits in a flow waits at most: what is charged to each other flow
+-- meanwhile. The turns are those of surplus round-robin, a form of deficit round-robin (M.
+-- Shreedhar, G. Varghese, SIGCOMM 1995), as `Turns` has them; the events, and the bound as it is
+-- stated here, are this project's own.
 use Rattle.std.specs.Prelude.{◌≡◌, ◌≢◌, ℕ, ◌+◌, ◌<◌, ◌≤◌, List, [], ◌∷◌, All, length, cond, nat_eq}
 use Rattle.fair_queue.specs.Turns.{Charges, GivesFirst, IsFair, IsPushed, QueueState, flow_at}
 
--- what happens to a queue: a key is put into a flow, or a flow gives one, once this was spent on the one before
+-- what happens to a queue: a key is put into a flow, or a flow gives one, once this was spent on
+-- the one before
 pub data QueueEvent : Type 0 where
   comes : (flow key : ℕ) → QueueEvent
   gives : (flow key spent : ℕ) → QueueEvent
 
 abbrev pub HappensToQueue : QueueEvent → QueueState → QueueState → Type 0
 HappensToQueue (comes flow key) old new = (flow < length old.flows) × IsPushed flow key old new
-HappensToQueue (gives flow key spent) old new = (between : QueueState) × Charges spent old between × GivesFirst flow key between new
+HappensToQueue (gives flow key spent) old new =
+    (between : QueueState) × Charges spent old between × GivesFirst flow key between new
 
 -- the events lead from one state to another
 abbrev pub EventsLead : QueueState → List QueueEvent → QueueState → Type 0
 EventsLead old [] new = new ≡ old
-EventsLead old (event ∷ events) new = (between : QueueState) × HappensToQueue event old between × EventsLead between events new
+EventsLead old (event ∷ events) new =
+    (between : QueueState) × HappensToQueue event old between × EventsLead between events new
 
 -- the flow gives nothing, and no key costs more than that
 abbrev pub PassesOver : ℕ → ℕ → QueueEvent → Type 0
@@ -25,12 +31,15 @@ PassesOver waiting most (gives flow key spent) = (flow ≢ waiting) × (spent �
 abbrev pub charged_to : ℕ → ℕ → List QueueEvent → ℕ
 charged_to flow turn [] = 0
 charged_to flow turn (comes other key ∷ events) = charged_to flow turn events
-charged_to flow turn (gives other key spent ∷ events) = cond (nat_eq turn flow) spent 0 + charged_to flow other events
+charged_to flow turn (gives other key spent ∷ events) =
+    cond (nat_eq turn flow) spent 0 + charged_to flow other events
 
--- While something waits in a flow and isn't given, no other flow is charged more than a quantum and what one key costs beyond it,
--- however many keys wait there, and whatever comes meanwhile.
+-- While something waits in a flow and isn't given, no other flow is charged more than a quantum and
+-- what one key costs beyond it, however many keys wait there, and whatever comes meanwhile.
 abbrev pub WaitsForOneQuantumEach : Type 0
-WaitsForOneQuantumEach = (old new : QueueState) (events : List QueueEvent) (waiting other most : ℕ) →
+WaitsForOneQuantumEach =
+    (old new : QueueState) (events : List QueueEvent) (waiting other most : ℕ) →
     IsFair old → waiting < length old.flows → 0 < length (flow_at old waiting).ready →
-    other < length old.flows → other ≢ waiting → EventsLead old events new → All (PassesOver waiting most) events →
+    other < length old.flows → other ≢ waiting → EventsLead old events new →
+    All (PassesOver waiting most) events →
     charged_to other old.turn events ≤ old.quantum + most

@@ -1,5 +1,6 @@
--- Turns of flows: surplus round-robin (H. Adiseshu, G. Parulkar, G. Varghese, SIGCOMM 1996), the form of deficit round-robin
--- (M. Shreedhar, G. Varghese, SIGCOMM 1995) for costs that are known only once a key was served.
+-- Turns of flows: surplus round-robin (H. Adiseshu, G. Parulkar, G. Varghese, SIGCOMM 1996), the
+-- form of deficit round-robin (M. Shreedhar, G. Varghese, SIGCOMM 1995) for costs that are known
+-- only once a key was served.
 use Rattle.std.specs.Prelude.{◌≡◌, ℕ, ◌+◌, ◌-◌, ◌<◌, ◌≤◌, ◌⊎◌, List, [], ◌∷◌, ◌++◌, length, slice_index_or, slice_set, min}
 
 -- the keys that are ready in a flow, first come first, and what is left of its quantum
@@ -24,15 +25,19 @@ flow_at state flow = slice_index_or state.flows flow idle
 abbrev pub with_flow : QueueState → ℕ → FlowState → QueueState
 with_flow state number flow = record state { flows = slice_set state.flows number flow }
 
--- round-robin over so many flows: the turn of this one comes after that of this many others, from the flow that has its turn on
+-- round-robin over so many flows: the turn of this one comes after that of this many others, from
+-- the flow that has its turn on
 abbrev pub ComesAfter : ℕ → ℕ → ℕ → ℕ → Type 0
-ComesAfter count turn others flow = (flow < count) × (others < count) × ((turn + others ≡ flow) ⊎ (turn + others ≡ flow + count))
+ComesAfter count turn others flow = (flow < count) × (others < count)
+    × ((turn + others ≡ flow) ⊎ (turn + others ≡ flow + count))
 
 -- the next turn is this flow's: round-robin
 abbrev pub IsNextTurn : ℕ → ℕ → ℕ → Type 0
-IsNextTurn count turn next = ((turn + 1 ≡ next) × (next < count)) ⊎ ((turn + 1 ≡ count) × (next ≡ 0))
+IsNextTurn count turn next =
+    ((turn + 1 ≡ next) × (next < count)) ⊎ ((turn + 1 ≡ count) × (next ≡ 0))
 
--- the quantum of a flow's next turn: what the last one took beyond its own is taken off, and at least 1 is left
+-- the quantum of a flow's next turn: what the last one took beyond its own is taken off; that at
+-- least 1 is left is this project's profile
 abbrev pub renewed : ℕ → ℕ → ℕ → ℕ
 renewed quantum credit spent = quantum - min (spent - credit) (quantum - 1)
 
@@ -59,18 +64,21 @@ pub record IsFirstReady (state : QueueState) (flow : ℕ) : Type 0 where
   pub others : ℕ
   pub comes : ComesAfter (length state.flows) state.turn others flow
   pub waits : 0 < length (flow_at state flow).ready
-  pub first : (earlier other : ℕ) → earlier < others → ComesAfter (length state.flows) state.turn earlier other → (flow_at state other).ready ≡ []
+  pub first : (earlier other : ℕ) → earlier < others →
+      ComesAfter (length state.flows) state.turn earlier other → (flow_at state other).ready ≡ []
 
 -- the next flow in which something waits gives its first key, and has its turn now
 pub record GivesFirst (flow key : ℕ) (old new : QueueState) : Type 0 where
   pub next : IsFirstReady old flow
   pub rest : List ℕ
   pub front : (flow_at old flow).ready ≡ key ∷ rest
-  pub taken : new ≡ record (with_flow old flow (record (flow_at old flow) { ready = rest })) { turn = flow }
+  pub taken :
+      new ≡ record (with_flow old flow (record (flow_at old flow) { ready = rest })) { turn = flow }
 
 -- a key was put behind those that wait in its flow
 abbrev pub IsPushed : ℕ → ℕ → QueueState → QueueState → Type 0
-IsPushed flow key old new = new ≡ with_flow old flow (record (flow_at old flow) { ready = (flow_at old flow).ready ++ (key ∷ []) })
+IsPushed flow key old new = new
+    ≡ with_flow old flow (record (flow_at old flow) { ready = (flow_at old flow).ready ++ (key ∷ []) })
 
 -- the turn is a flow's, and no flow has more than its quantum left
 pub record IsFair (state : QueueState) : Type 0 where

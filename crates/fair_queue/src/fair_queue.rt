@@ -54,8 +54,8 @@ fn flow_after(count: usize, turn: usize, others: usize) -> usize
 }
 
 impl FairQueue {
-    /// Returns a queue of this many flows, in which nothing waits, with room for `keys` keys in each.
-    /// A flow may spend a quantum in a turn.
+    /// Returns a queue of this many flows, in which nothing waits, with room for `keys` keys in
+    /// each. A flow may spend a quantum in a turn.
     ///
     /// Returns an error if memory runs out.
     pub fn new(
@@ -96,8 +96,8 @@ impl FairQueue {
         self.first_ready().is_none()
     }
 
-    /// Returns whether the turn of the flow that has it ends: nothing more waits there, or its quantum is
-    /// used up once `spent` is charged to it, what serving the last key has cost.
+    /// Returns whether the turn of the flow that has it ends: nothing more waits there, or its
+    /// quantum is used up once `spent` is charged to it, what serving the last key has cost.
     pub fn turn_ends(&self, spent: u64) -> bool
         ensures { IsTrue result ↔ ¬ (TurnGoesOn spent (flow_at self.now self.now.turn)) }
     {

@@ -22,7 +22,8 @@ impl Model for Flow {
 }
 
 impl Flow {
-    /// Returns a flow in which nothing waits, with a whole quantum, and with room for this many keys.
+    /// Returns a flow in which nothing waits, with a whole quantum, and with room for this many
+    /// keys.
     ///
     /// Returns an error if memory runs out.
     pub(crate) fn new(alloc: Global, quantum: u64, keys: usize) -> Result<Flow, AllocError>

@@ -103,8 +103,8 @@ pub record TakesLast (before between after : Scene) (takes : Takes before after)
   pub one : length rest.taken.requests ≡ 1
   pub all : takes.taken.requests ≡ first.taken.requests ++ rest.taken.requests
 
--- Requests wait while more is queued than may be: none was taken, or the last one while it wasn't. So
--- what is queued afterwards is at most that and the reply to the last one.
+-- Requests wait while more is queued than may be: none was taken, or the last one while it wasn't.
+-- So what is queued afterwards is at most that and the reply to the last one.
 abbrev pub TakesWithin : {before after : Scene} → Takes before after → Type 0
 TakesWithin {before} {after} takes =
     (takes.taken.requests ≡ []) ⊎ (between : Scene) × TakesLast before between after takes

@@ -1,4 +1,4 @@
--- The parts of a turn, as the contracts of its functions state them.
+-- The parts of a turn, as the contracts of its functions state them; this project's profile.
 use Rattle.std.specs.Bool.{MatchBool}
 use Rattle.std.specs.Prelude.{◌≡◌, ◌≢◌, ◌⊎◌, ℕ, ◌≤◌, ◌<◌, Bool, true, false, List, [], ◌∷◌, ◌++◌, length, Option, None}
 use Rattle.mc_counters.specs.Tallied.{CountedRequest}

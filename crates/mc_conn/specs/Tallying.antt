@@ -20,8 +20,8 @@ abbrev pub asked_for : Demand → Option Asked
 asked_for (Logs tenant command quiet) = Some (asked_for_by command)
 asked_for (Says said) = None
 
--- What is counted for a request to which these bytes are owed: one reply, whose text they are, unless
--- the request says noreply; and nothing for quit, which gets no reply.
+-- What is counted for a request to which these bytes are owed: one reply, whose text they are,
+-- unless the request says noreply; and nothing for quit, which gets no reply.
 abbrev pub CountsFor : Role → Request → List ℕ → List CountedRequest → Type 0
 CountsFor role Quit bytes counted = (bytes ≡ []) × (counted ≡ [])
 CountsFor role request bytes counted =

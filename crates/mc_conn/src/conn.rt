@@ -82,8 +82,8 @@ pub enum State {
     Idle,
     /// Bytes came or went, or requests were taken.
     Busy,
-    /// The next request is to be logged, and the worker's log is closing: the request is left to the
-    /// next log. Only a turn that leaves commands ends so.
+    /// The next request is to be logged, and the worker's log is closing: the request is left to
+    /// the next log. Only a turn that leaves commands ends so.
     Full,
 }
 

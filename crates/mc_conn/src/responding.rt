@@ -100,7 +100,8 @@ fn refuse(
     reply_and_count(&None, &Reply::Refused(refusal), quiet, queue, past, tally)
 }
 
-/// Submits a tenant's command, queues its reply unless the request is quiet, and counts the request.
+/// Submits a tenant's command, queues its reply unless the request is quiet, and counts the
+/// request.
 ///
 /// Returns `Memory` if memory runs out, and `Taken` if the command's cell holds another value. No
 /// reply is queued then, and the command may be announced.

@@ -53,8 +53,8 @@ impl Conn {
         }
     }
 
-    /// Makes a turn as `turn` or `turn_until` does, but at a fault neither sends the client anything
-    /// nor closes the connection.
+    /// Makes a turn as `turn` or `turn_until` does, but at a fault neither sends the client
+    /// anything nor closes the connection.
     ///
     /// It pushes before the pull as well as at the end, since an input may wait for its next bytes.
     fn go_round<I: Input, O: Output, G: Gate>(
@@ -148,8 +148,8 @@ impl Conn {
     ///
     /// Requests are taken, and bytes pulled, while no more than `QUEUE_BYTES` are queued. Bytes are
     /// pulled only if no whole request is held then, and into the buffer, which the caller may use
-    /// again afterwards. The tally counts the requests that get a reply, quiet or not, and the refusal
-    /// of one that memory ran out for. A full log is a reply, not an error.
+    /// again afterwards. The tally counts the requests that get a reply, quiet or not, and the
+    /// refusal of one that memory ran out for. A full log is a reply, not an error.
     ///
     /// Each error closes the connection for good; later turns return `Closed` and do nothing.
     /// Returns `Memory` if memory runs out, which is reported to the client as far as the output
@@ -193,8 +193,8 @@ impl Conn {
         self.turn_or_close(false, worker, input, output, gate, buffer, tally)
     }
 
-    /// Makes one turn as `turn` does, but leaves commands to the next log: where the next request is
-    /// to be logged and the worker's log is closing, the request isn't taken. It stays first in
+    /// Makes one turn as `turn` does, but leaves commands to the next log: where the next request
+    /// is to be logged and the worker's log is closing, the request isn't taken. It stays first in
     /// line, and the state is `Full`, once what is queued is pushed as far as the output takes it.
     ///
     /// Returns the errors of `turn`.

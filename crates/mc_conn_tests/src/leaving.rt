@@ -6,7 +6,8 @@ use mc_model::Fault;
 use mc_stream::OutputStep;
 use std::alloc::Global;
 
-/// What a client sends to a log of three places and two workers, which is closing after two commands.
+/// What a client sends to a log of three places and two workers, which is closing after two
+/// commands.
 const SENT: &str =
     "version\r\nset a 0 0 1\r\nx\r\nbogus\r\nget a\r\nversion\r\nget a\r\nversion\r\nget a\r\n";
 

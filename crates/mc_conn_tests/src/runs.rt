@@ -53,7 +53,8 @@ fn long_blocks_however_they_are_taken(rt: HostRuntime) -> Result<(), Fault> {
     Ok(())
 }
 
-/// What is owed for the long block's set and a get of it, and then what reports that memory ran out.
+/// What is owed for the long block's set and a get of it, and then what reports that memory ran
+/// out.
 const STARVED: &str = "STORED\r\nVALUE b 1 40000\r\n@\r\nEND\r\nSERVER_ERROR out of memory\r\n";
 
 /// What an output takes as memory runs out, and how many bytes that are: all; a part of the line;
@@ -96,8 +97,8 @@ const TAKEN: [(&[OutputStep], usize); 5] = [
     ),
 ];
 
-/// Returns whether a client reads this many bytes if memory runs out while the long block is queued.
-/// Three pulls bring the requests; the first push, after them, takes nothing.
+/// Returns whether a client reads this many bytes if memory runs out while the long block is
+/// queued. Three pulls bring the requests; the first push, after them, takes nothing.
 fn is_starved(alloc: Global, (pushes, count): (&[OutputStep], usize)) -> Result<bool, Fault> {
     let sent = filled(alloc, "set b 1 0 40000\r\n@\r\nget b\r\n", WORD, TIMES)?;
     let want = filled(alloc, STARVED, WORD, TIMES)?;

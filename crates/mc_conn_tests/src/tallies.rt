@@ -6,8 +6,8 @@ use mc_counters::CommandKind;
 use mc_model::{Fault, WireNo};
 use mc_stream::InputStep;
 
-/// Two commands that are answered, two that say noreply, a retrieval of three keys of which two have
-/// items, lines that are refused, one of them quietly, and the end.
+/// Two commands that are answered, two that say noreply, a retrieval of three keys of which two
+/// have items, lines that are refused, one of them quietly, and the end.
 const SENT: &str = "set a 0 0 1\r\n1\r\nset b 0 0 1 noreply\r\n2\r\nget a x b\r\n\
     delete x noreply\r\nnothing\r\nset a 0 9 1 noreply\r\n3\r\ngets y\r\nversion\r\nquit\r\n\
     get a\r\n";

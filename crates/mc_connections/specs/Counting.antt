@@ -10,8 +10,8 @@ use Rattle.mc_connections.specs.declared.connection.Connection.{Connection}
 use Rattle.mc_connections.specs.declared.places.TheConstants.{MOST_ADMINS}
 
 -- One more connection of this role has a place: one of an administrator if few others are
--- administrators', and one of a tenant within the tenant's own reserve, or while a place is free that
--- is kept for nobody.
+-- administrators', and one of a tenant within the tenant's own reserve, or while a place is free
+-- that is kept for nobody.
 abbrev pub HasPlace : Role → WorkerPlaces → Type 0
 HasPlace (Tenant tenant) places = MayTake tenant places.tenants
 HasPlace (Admin names) places = places.admins < MOST_ADMINS
@@ -53,7 +53,9 @@ abbrev pub tenants_among : ℕ → Slab Connection → ℕ
 tenants_among tenant connections = count_by (has_tenant tenant) connections.slots
 
 -- each of this many tenants, and administrators, hold as many places as they have connections
-pub record AreCounted (tenants : ℕ) (places : WorkerPlaces) (connections : Slab Connection) : Type 0 where
-  pub of_tenants : (tenant : ℕ) → tenant < tenants → held_by places.tenants tenant ≡ tenants_among tenant connections
+pub record AreCounted (tenants : ℕ) (places : WorkerPlaces) (connections : Slab Connection) :
+    Type 0 where
+  pub of_tenants : (tenant : ℕ) → tenant < tenants →
+      held_by places.tenants tenant ≡ tenants_among tenant connections
   pub of_admins : places.admins ≡ admins_among connections
   pub of_all : slab_len connections ≡ sum places.tenants.held + places.admins

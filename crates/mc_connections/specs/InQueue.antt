@@ -9,7 +9,8 @@ use Rattle.mc_connections.specs.declared.waiting.Waiting.{Waiting}
 
 -- The connection under this key was served, and it is noted that this has cost what its requests
 -- cost that got a reply, and the bytes that its stream gave and took.
-pub record HasServedNext (until : Bool) (key : ℕ) (before after : Standing) (now : Waiting) : Type 0 where
+pub record HasServedNext (until : Bool) (key : ℕ) (before after : Standing) (now : Waiting) :
+    Type 0 where
   pub state : State
   pub serves : ServesAt until key state before after
   pub requests : ℕ
@@ -25,7 +26,8 @@ WaitsOn Full tenant key old new = ComesToWait tenant key old new
 WaitsOn Idle tenant key old new = new.queue ≡ old.queue
 WaitsOn Closed tenant key old new = new.queue ≡ old.queue
 
--- the connection under this key was served, and waits on in its own tenant's flow if it has more to do
+-- the connection under this key was served, and waits on in its own tenant's flow if it has more to
+-- do
 pub record HasLetWait (until : Bool) (key : ℕ) (before after : Standing)
     (old new : Waiting) : Type 0 where
   pub state : State

@@ -4,8 +4,8 @@ use Rattle.mc_connections.specs.Working.{IsUnused, Works, standing}
 use Rattle.mc_connections.specs.declared.connections.Connections.{Connections}
 use Rattle.uc_worker.specs.declared.worker.Worker.{Worker}
 
--- The workers that served at an event loop one after another, each on the next log: as each was when
--- it began there, and as it was when it had served.
+-- The workers that served at an event loop one after another, each on the next log: as each was
+-- when it began there, and as it was when it had served.
 pub record InTurn : Type 0 where
   pub begun : List Worker
   pub served : List Worker

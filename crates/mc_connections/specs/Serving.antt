@@ -70,9 +70,10 @@ pub record Admits (before after : Connections) (arrival : Arrival _) (key : ℕ)
   pub places : after.places
       ≡ with_held_as arrival.role (held_as arrival.role before.places + 1) before.places
 
--- What has become of an arrival, and of the connections: it was admitted, at a place that it had; or
--- it comes back as it was, since it has none, and so isn't one of a tenant that holds less than its
--- reserve; or its role isn't the log's; or the system didn't register it, though it has a place.
+-- What has become of an arrival, and of the connections: it was admitted, at a place that it had;
+-- or it comes back as it was, since it has none, and so isn't one of a tenant that holds less than
+-- its reserve; or its role isn't the log's; or the system didn't register it, though it has a
+-- place.
 abbrev pub HasComeTo : Connections → Connections → Arrival TcpStream → Admission → Type 0
 HasComeTo before after arrival (Admitted key) =
     HasPlace arrival.role before.places × Admits before after arrival key

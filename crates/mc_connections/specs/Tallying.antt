@@ -1,5 +1,5 @@
--- Where a worker keeps the tallies of its tenants, and which of them a connection is counted in; this
--- project's profile.
+-- Where a worker keeps the tallies of its tenants, and which of them a connection is counted in;
+-- this project's profile.
 use Rattle.std.specs.Prelude.{◌≡◌, ℕ, ◌-◌, false, true, List, Option, Some, None, length, min, slice_get, slice_set}
 use Rattle.mc_counters.specs.declared.tally.Tally.{Tally}
 use Rattle.mc_conn.specs.declared.conn.State.{State}
@@ -31,9 +31,10 @@ TalliesAt key state before after old new =
     (new ≡ old) state before.connections.ended.connections after.connections.ended.connections
     (connection_at before.connections key) (connection_at after.connections key)
 
--- The connection under this key was served, if there was one, and is counted in the tally of its tenant,
--- or in the administrators'; no other tally has changed.
-pub record CountsForTenant (key : ℕ) (before after : Standing) (old new : List OneTally) : Type 0 where
+-- The connection under this key was served, if there was one, and is counted in the tally of its
+-- tenant, or in the administrators'; no other tally has changed.
+pub record CountsForTenant (key : ℕ) (before after : Standing) (old new : List OneTally) :
+    Type 0 where
   pub state : State
   pub place : ℕ
   pub place_is : place ≡ tally_place (length old - 1) (tenant_at before.connections key)

@@ -4,8 +4,8 @@ use Rattle.fair_queue.specs.Turns.{Charges, GivesFirst, IsIdle, IsPushed, QueueS
 use Rattle.mc_connections.specs.declared.waiting.TheConstants.{BYTES_OF_A_REQUEST, BYTES_OF_A_SERVE, ROUND}
 use Rattle.mc_connections.specs.declared.waiting.Waiting.{Waiting}
 
--- what it costs to serve a connection of which this many requests got a reply, and whose stream moved
--- this many bytes
+-- what it costs to serve a connection of which this many requests got a reply, and whose stream
+-- moved this many bytes
 abbrev pub cost_of : ℕ → ℕ → ℕ
 cost_of requests bytes =
     min (BYTES_OF_A_SERVE + requests * BYTES_OF_A_REQUEST + bytes) (2 ^ 64 - 1)

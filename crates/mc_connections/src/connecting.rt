@@ -25,19 +25,20 @@ use std::alloc::Global;
 use std::mem;
 use uc_worker::{Gate, Worker};
 
-/// How many turns a connection gets at most each time that it is served, so that the others get theirs
-/// soon: a turn takes at most a buffer of bytes.
+/// How many turns a connection gets at most each time that it is served, so that the others get
+/// theirs soon: a turn takes at most a buffer of bytes.
 const TURNS: u32 = 2;
 
-/// How many requests a read is to bring at most, so that a turn is short where they are small; once as
-/// many were answered there is no further turn.
+/// How many requests a read is to bring at most, so that a turn is short where they are small; once
+/// as many were answered there is no further turn.
 const REQUESTS_OF_A_READ: u64 = 64;
 
 /// How many bytes a read takes at most where a connection's requests are small, or not known yet.
 const LEAST_READ: usize = 2_048;
 
-/// Returns how many bytes a connection's next reads take at most, by the bytes and the requests of its
-/// last serve: all that there is room for if there was no request, since a block may be on its way.
+/// Returns how many bytes a connection's next reads take at most, by the bytes and the requests of
+/// its last serve: all that there is room for if there was no request, since a block may be on its
+/// way.
 fn read_bytes(bytes: u64, requests: u64) -> usize {
     match bytes.checked_div(requests) {
         Some(each) => (each.saturating_mul(REQUESTS_OF_A_READ) as usize).clamp(
@@ -95,8 +96,8 @@ fn turn_once<I: Input, O: Output, G: Gate>(
     }
 }
 
-/// Makes turns until nothing is left to do, `TURNS` were made, `REQUESTS_OF_A_READ` were answered, a
-/// command is left to the next log, or a fault has ended the connection. Returns the connection's
+/// Makes turns until nothing is left to do, `TURNS` were made, `REQUESTS_OF_A_READ` were answered,
+/// a command is left to the next log, or a fault has ended the connection. Returns the connection's
 /// state afterwards.
 fn turns<I: Input, O: Output, G: Gate>(
     until_done: bool,
@@ -204,8 +205,8 @@ impl Connection {
 }
 
 impl Connections {
-    /// Returns the number of the tenant whose connection is under a key, or `None` if none is, or an
-    /// administrator's.
+    /// Returns the number of the tenant whose connection is under a key, or `None` if none is, or
+    /// an administrator's.
     pub(crate) fn tenant_of(&self, key: usize) -> Option<usize>
         ensures { result ≡ tenant_at self.now key }
     {
@@ -254,8 +255,8 @@ impl Connections {
         Admission::Admitted(self.by_key.insert_reserved(connection))
     }
 
-    /// Serves the connection under a key, if there is one, and counts its requests in the tally. If it
-    /// has ended it is removed, and its stream closes.
+    /// Serves the connection under a key, if there is one, and counts its requests in the tally. If
+    /// it has ended it is removed, and its stream closes.
     pub(crate) fn serve<G: Gate>(
         &mut self,
         until_done: bool,

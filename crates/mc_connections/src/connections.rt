@@ -51,8 +51,8 @@ pub struct Connections {
 }
 
 impl Connections {
-    /// Returns an empty set of connections, with room for `MOST_OF_ALL`, of which `reserve` are kept
-    /// for each of the tenants.
+    /// Returns an empty set of connections, with room for `MOST_OF_ALL`, of which `reserve` are
+    /// kept for each of the tenants.
     ///
     /// Returns an error if memory runs out.
     pub(crate) fn new(

@@ -1,5 +1,6 @@
-//! What the definitions say of connections, log after log, and the numbers of this profile. A law is
-//! the contract of a function with an empty body, or with calls of the laws from which it follows.
+//! What the definitions say of connections, log after log, and the numbers of this profile. A law
+//! is the contract of a function with an empty body, or with calls of the laws from which it
+//! follows.
 ghost use Rattle.std.specs.Prelude.{◌≡◌, ◌↔◌, [], ◌∷◌, All, Bool, ℕ, List, length};
 ghost use Rattle.mc_conn.specs.Owed.{Mark};
 ghost use Rattle.mc_conn.specs.declared.conn.Role.{Role};
@@ -25,8 +26,8 @@ pub fn one_log_is_owed_in_parts()
         × OwesInParts worker role requests owed to }
 {}
 
-/// An event loop has at most 1,024 connections of tenants, and 16 more of administrators. At most 64
-/// streams of connections that have ended close at the same time, and at most 65,536 bytes are
+/// An event loop has at most 1,024 connections of tenants, and 16 more of administrators. At most
+/// 64 streams of connections that have ended close at the same time, and at most 65,536 bytes are
 /// dropped of each.
 pub fn numbers_of_the_network()
     ensures connections { MOST_CONNECTIONS ≡ 1024 }
@@ -36,8 +37,8 @@ pub fn numbers_of_the_network()
 {}
 
 /// Work adds up: none, work after work, and an arrival or the worker's catching up after work. The
-/// worker is the same later on, its connections are still of its log's roles, and as many places are
-/// kept for each tenant.
+/// worker is the same later on, its connections are still of its log's roles, and as many places
+/// are kept for each tenant.
 pub fn work_adds_up()
     ensures none { (until : Bool) (a : Standing) → Works until a a }
     ensures through { (until : Bool) (a b c : Standing) → Works until a b → Works until b c →

@@ -43,8 +43,8 @@ fn stops_short(event: &Event) -> bool {
 }
 
 impl ReadyQueue {
-    /// Returns a queue without connections, for a log of this many tenants, for each of which `reserve`
-    /// places are kept.
+    /// Returns a queue without connections, for a log of this many tenants, for each of which
+    /// `reserve` places are kept.
     ///
     /// Returns an error if memory runs out.
     pub fn new(alloc: Global, tenants: usize, reserve: usize) -> Result<ReadyQueue, AllocError>
@@ -132,8 +132,8 @@ impl ReadyQueue {
         }
     }
 
-    /// Lets the connections wait for which there is an event, and drops what has come on streams that
-    /// close. Returns whether the worker was woken.
+    /// Lets the connections wait for which there is an event, and drops what has come on streams
+    /// that close. Returns whether the worker was woken.
     ///
     /// Returns an error if memory runs out.
     fn note_events(
@@ -160,10 +160,10 @@ impl ReadyQueue {
         Ok(is_woken)
     }
 
-    /// Makes a round: lets the connections wait for which there is an event, and serves connections,
-    /// each tenant's in its turn, until a turn ends once half a quantum is spent, or nobody waits. If
-    /// `until_done` is set, commands are left to the next log once this one is closing, and whose they
-    /// are wait on. Returns whether the worker was woken.
+    /// Makes a round: lets the connections wait for which there is an event, and serves
+    /// connections, each tenant's in its turn, until a turn ends once half a quantum is spent, or
+    /// nobody waits. If `until_done` is set, commands are left to the next log once this one is
+    /// closing, and whose they are wait on. Returns whether the worker was woken.
     ///
     /// Returns an error if memory runs out.
     pub fn serve_round<G: Gate>(

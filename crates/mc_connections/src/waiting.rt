@@ -29,8 +29,8 @@ pub(crate) struct Next {
     pub stops_short: bool,
 }
 
-/// The keys of the connections that wait to be served: each tenant's in its turn, and administrators'
-/// in one of their own, however many of them there are.
+/// The keys of the connections that wait to be served: each tenant's in its turn, and
+/// administrators' in one of their own, however many of them there are.
 #[derive(Drop)]
 pub(crate) struct Waiting {
     queue: FairQueue,
@@ -66,8 +66,8 @@ impl Waiting {
         self.queue.is_empty()
     }
 
-    /// Lets the connection under a key wait, behind those of its tenant, or of the administrators, that
-    /// wait already; one that does stays where it is.
+    /// Lets the connection under a key wait, behind those of its tenant, or of the administrators,
+    /// that wait already; one that does stays where it is.
     ///
     /// Returns an error if memory runs out.
     pub(crate) fn push(&mut self, tenant: Option<usize>, next: Next) -> Result<(), AllocError>
@@ -105,15 +105,16 @@ impl Waiting {
         }
     }
 
-    /// Returns whether the round is over: `ROUND` is spent in it, and the turn of the one that was served
-    /// last ends.
+    /// Returns whether the round is over: `ROUND` is spent in it, and the turn of the one that was
+    /// served last ends.
     fn is_round_over(&self) -> bool
         ensures { IsTrue result ↔ IsRoundOver self.now }
     {
         self.spent_in_round >= ROUND && self.queue.turn_ends(self.spent)
     }
 
-    /// Takes out the connection that is to be served next, or `None` if nobody waits or the round is over.
+    /// Takes out the connection that is to be served next, or `None` if nobody waits or the round
+    /// is over.
     pub(crate) fn pop(&mut self) -> Option<Next>
         ensures { MatchOption result (EndsRound self.old self.new)
             (λ next. ¬ (IsRoundOver self.old) × TakesTurn next.key self.old self.new) }
@@ -131,8 +132,8 @@ impl Waiting {
         }
     }
 
-    /// Notes what the connection that was taken out last has cost: this many requests that got a reply,
-    /// and bytes that its stream gave and took.
+    /// Notes what the connection that was taken out last has cost: this many requests that got a
+    /// reply, and bytes that its stream gave and took.
     pub(crate) fn charge(&mut self, requests: u64, bytes: u64)
         ensures queue { self.new.queue ≡ self.old.queue }
         ensures waits { self.new.waits.items ≡ self.old.waits.items }

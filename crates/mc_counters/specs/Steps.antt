@@ -1,4 +1,4 @@
--- The parts of counting one request.
+-- The parts of counting one request, as `Tallied` counts it; this project's profile.
 use Rattle.std.specs.Prelude.{ℕ, ◌+◌, Option, Some, None, List, slice_index, slice_set}
 use Rattle.mc_model.specs.declared.reply.Reply.{Reply}
 use Rattle.mc_model.specs.declared.reply.Reply.TheVariants.{Refused}

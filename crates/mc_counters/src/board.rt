@@ -2,9 +2,9 @@
 //!
 //! A worker's `Publisher` is the only one that writes its words, and a `LogPublisher` those of the
 //! logs: there is no second one for them, and a board only reads. None takes a lock or makes a call
-//! of the system. A look reads one word after another, so it may see some of them as they were before
-//! a publication and some as they are after it. No clause says what a word holds, since another thread
-//! may change it at any time.
+//! of the system. A look reads one word after another, so it may see some of them as they were
+//! before a publication and some as they are after it. No clause says what a word holds, since
+//! another thread may change it at any time.
 ghost use Rattle.std.specs.Prelude.{◌^◌, ◌<◌};
 
 use crate::kinds::{COMMANDS, REFUSALS};
@@ -169,8 +169,8 @@ pub fn new_log_board(alloc: Global) -> Result<(LogPublisher, LogBoard), AllocErr
     Ok((LogPublisher { words: written }, LogBoard { words: read }))
 }
 
-/// Returns the words of a worker of these logs for this many tenants, all of them 0, to write and to
-/// read.
+/// Returns the words of a worker of these logs for this many tenants, all of them 0, to write and
+/// to read.
 ///
 /// Returns an error if memory runs out.
 pub fn new_board(
@@ -217,8 +217,8 @@ impl LogBoard {
 }
 
 impl Publisher {
-    /// Shows the worker's numbers in the log that is served: how many places it has replayed, how many
-    /// bytes their commands keep, and how many connections it serves.
+    /// Shows the worker's numbers in the log that is served: how many places it has replayed, how
+    /// many bytes their commands keep, and how many connections it serves.
     pub fn show_worker(&mut self, replayed: u64, bytes: u64, connections: u64) {
         self.words.set(REPLAYS_AT, self.log.get(GENERATION_AT));
         self.words.set(REPLAYED_AT, replayed);

@@ -33,7 +33,8 @@ pub enum CommandKind {
     Limit,
 }
 
-/// The kinds of commands of tenants, each at its place. `Limit` isn't one: an administrator sends it.
+/// The kinds of commands of tenants, each at its place. `Limit` isn't one: an administrator sends
+/// it.
 pub const COMMAND_KINDS: [CommandKind; TENANT_COMMANDS] = [
     CommandKind::Get,
     CommandKind::Gets,
@@ -49,8 +50,8 @@ pub const COMMAND_KINDS: [CommandKind; TENANT_COMMANDS] = [
     CommandKind::Flush,
 ];
 
-/// The kinds of refusals, each at its place. `OUT_OF_MEMORY` is what a client gets in place of a reply
-/// where memory ran out, before its connection ends.
+/// The kinds of refusals, each at its place. `OUT_OF_MEMORY` is what a client gets in place of a
+/// reply where memory ran out, before its connection ends.
 pub const REFUSAL_KINDS: [WireNo; REFUSALS] = [
     WireNo::E1,
     WireNo::E2,

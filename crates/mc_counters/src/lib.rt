@@ -1,7 +1,7 @@
 //! What is counted of a tenant's requests: commands by kind, items that retrievals found and keys
 //! that they didn't, and refusals by kind. Begin with `Tally`; `specs/Tallied.antt` says what each
-//! number counts. `board` has the words by which a server shows its numbers, and `resident_in` finds
-//! how much memory it has.
+//! number counts. `board` has the words by which a server shows its numbers, and `resident_in`
+//! finds how much memory it has.
 #![tactic(auto)]
 
 pub use answered_requests::AnsweredRequests;

@@ -7,8 +7,8 @@ use crate::kinds::Asked;
 use mc_model::Reply;
 use std::marker::Model;
 
-/// Every request of a connection that was answered, in order. It takes no memory, and its methods do
-/// nothing at run time.
+/// Every request of a connection that was answered, in order. It takes no memory, and its methods
+/// do nothing at run time.
 #[derive(Drop)]
 pub struct PastRequests {
     pub ghost requests: { List CountedRequest },

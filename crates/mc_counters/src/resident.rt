@@ -18,8 +18,8 @@ fn first_number(text: &[u8]) -> Option<u64> {
     Some(number)
 }
 
-/// Returns how many bytes are resident by the lines of the file, one of which says it in KiB, or `None` if
-/// none does.
+/// Returns how many bytes are resident by the lines of the file, one of which says it in KiB, or
+/// `None` if none does.
 pub fn resident_in(lines: &[u8]) -> Option<u64> {
     let line = lines
         .split(|byte| *byte == b'\n')

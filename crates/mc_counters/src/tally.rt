@@ -108,7 +108,8 @@ impl Tally {
         }
     }
 
-    /// Counts a request that was answered: what its command asked for, if it had one, and its reply.
+    /// Counts a request that was answered: what its command asked for, if it had one, and its
+    /// reply.
     pub fn count(&mut self, asked: &Option<Asked>, reply: &Reply<'_>)
         // What was counted before is counted still, and now this one too.
         ensures { (past : List CountedRequest) → IsTallyOf past self.old →

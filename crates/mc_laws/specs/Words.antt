@@ -1,5 +1,7 @@
 -- Terms of the laws: what they say of commands on one key, of quotas, and of the change that stored
--- an item. Only the contracts of laws rest on them.
+-- an item. Only the contracts of laws rest on them. When a cas is let through, and that a key is
+-- untouched, are after memcached's doc/protocol.txt, "Storage commands" ("only if no one else has
+-- updated since I last fetched it"); quotas are this project's profile.
 use Rattle.std.specs.Prelude.{◌≡◌, ◌≢◌, ◌⊎◌, ◌≤◌, false, IsTrue, List, [], ◌∷◌, ◌++◌, Some}
 use Rattle.std.specs.FinMap as map
 use Rattle.mc_model.specs.declared.command.Command.{Command}

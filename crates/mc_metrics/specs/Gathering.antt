@@ -14,8 +14,8 @@ use Rattle.mc_metrics.specs.declared.snapshot.Snapshot.{Snapshot}
 use Rattle.mc_metrics.specs.declared.snapshot.TenantNumbers.{TenantNumbers}
 use Rattle.mc_metrics.specs.declared.snapshot.WorkerNumbers.{WorkerNumbers}
 
--- a worker has come no further than another: it replays an earlier log, or the same one, of which it
--- has replayed no more places
+-- a worker has come no further than another: it replays an earlier log, or the same one, of which
+-- it has replayed no more places
 abbrev pub IsNoFurther : WorkerShown → WorkerShown → Type 0
 IsNoFurther one other =
     (one.generation < other.generation)
@@ -26,8 +26,8 @@ pub record IsFurthest (workers : List Shown) (one : Shown) : Type 0 where
   pub among : Contains workers one
   pub most : All (λ (other : Shown). IsNoFurther other.worker one.worker) workers
 
--- how many places a worker has replayed of the log of this number, and how many bytes their commands
--- keep
+-- how many places a worker has replayed of the log of this number, and how many bytes their
+-- commands keep
 abbrev pub replayed_in : ℕ → WorkerShown → ℕ
 replayed_in generation worker = if worker.generation == generation then worker.replayed else 0
 
@@ -55,7 +55,8 @@ tally_shown number [] = NONE
 tally_shown number (first ∷ rest) =
     tally_of_both (tally_at number first) (tally_shown number rest)
 
--- the numbers of a tenant: those of its table at this worker, and its connections and requests at all
+-- the numbers of a tenant: those of its table at this worker, and its connections and requests at
+-- all
 abbrev pub tenant_numbers : List Shown → Shown → ℕ → List ℕ → TenantNumbers
 tenant_numbers workers leader number name = record {
   name = name;
@@ -72,8 +73,8 @@ tenants_shown workers leader number [] = []
 tenants_shown workers leader number (name ∷ names) =
     tenant_numbers workers leader number name ∷ tenants_shown workers leader (number + 1) names
 
--- the numbers of workers, which are numbered from this number on: each lags behind by the used places
--- that it hasn't replayed
+-- the numbers of workers, which are numbered from this number on: each lags behind by the used
+-- places that it hasn't replayed
 abbrev pub workers_shown : ℕ → ℕ → ℕ → List Shown → List WorkerNumbers
 workers_shown generation used number [] = []
 workers_shown generation used number (first ∷ rest) =
@@ -83,8 +84,8 @@ workers_shown generation used number (first ∷ rest) =
       connections = first.worker.connections;
     } ∷ workers_shown generation used (number + 1) rest
 
--- the numbers of the log that is served, of which this worker has replayed all places that are used,
--- and of those before it
+-- the numbers of the log that is served, of which this worker has replayed all places that are
+-- used, and of those before it
 abbrev pub log_shown : ServerShown → WorkerShown → LogNumbers
 log_shown shown leader = record {
   places = shown.places;
@@ -95,8 +96,8 @@ log_shown shown leader = record {
   turn_over_micros = shown.logs.turn_over_micros;
 }
 
--- The snapshot has the numbers of the tenants with these names: as the worker shows their tables that
--- has come furthest, and of their requests to all workers.
+-- The snapshot has the numbers of the tenants with these names: as the worker shows their tables
+-- that has come furthest, and of their requests to all workers.
 pub record Gathers (names : List (List ℕ)) (shown : ServerShown) (snapshot : Snapshot) : Type 0 where
   pub leader : Shown
   pub furthest : IsFurthest shown.workers.items leader

@@ -1,5 +1,5 @@
--- The page that people get: a row for each tenant, and one for the log. A name has only letters,
--- digits, dashes and underscores, so nothing in it needs an escape.
+-- The page that people get: a row for each tenant, and one for the log; this project's profile. A
+-- name has only letters, digits, dashes and underscores, so nothing in it needs an escape.
 use Rattle.std.specs.Prelude.{ℕ, List, [], ◌∷◌, ◌++◌, codes, decimal, flat_map}
 use Rattle.mc_metrics.specs.declared.page.TheConstants.{PAGE_BACK, PAGE_FRONT, PAGE_MIDDLE}
 use Rattle.mc_metrics.specs.declared.snapshot.LogNumbers.{LogNumbers}

@@ -109,7 +109,8 @@ impl Shown {
     }
 }
 
-/// Returns how many connections of the tenant of this number these workers serve, `u64::MAX` at most.
+/// Returns how many connections of the tenant of this number these workers serve, `u64::MAX` at
+/// most.
 fn connections_of(number: usize, workers: &[Shown]) -> u64
     ensures { result ≡ connections_shown number workers.now }
 {
@@ -136,8 +137,8 @@ fn tally_of(number: usize, workers: &[Shown]) -> Tally
     }
 }
 
-/// Returns the numbers of a tenant: of its table as the leader shows it, and of its connections to all
-/// workers and its requests.
+/// Returns the numbers of a tenant: of its table as the leader shows it, and of its connections to
+/// all workers and its requests.
 ///
 /// Returns `Memory` if memory runs out.
 fn numbers_of(
@@ -189,8 +190,8 @@ fn write_tenants(
     }
 }
 
-/// Appends the numbers of these workers, which follow those that are there. `used` places of the log
-/// of this number are used.
+/// Appends the numbers of these workers, which follow those that are there. `used` places of the
+/// log of this number are used.
 ///
 /// Returns an error if memory runs out.
 fn write_workers(
@@ -232,8 +233,8 @@ fn log_numbers(shown: &ServerShown, leader: &WorkerShown) -> LogNumbers
 }
 
 /// Returns the numbers of a server whose tenants have these names, in their order: of the tables as
-/// the worker shows them that has come furthest, and of the requests to all workers. Without a worker
-/// no tenant is shown.
+/// the worker shows them that has come furthest, and of the requests to all workers. Without a
+/// worker no tenant is shown.
 ///
 /// Returns `Memory` if memory runs out.
 pub fn snapshot_of(alloc: Global, names: &[Name], shown: &ServerShown) -> Result<Snapshot, Fault>

@@ -1,12 +1,12 @@
-//! What the definitions say of a scrape. A law is the contract of a function with an empty body, or with
-//! calls of the laws from which it follows.
+//! What the definitions say of a scrape. A law is the contract of a function with an empty body, or
+//! with calls of the laws from which it follows.
 ghost use Rattle.std.specs.Prelude.{◌++◌, [], ◌∷◌, ℕ, List};
 ghost use Rattle.mc_counters.specs.Tallied.{CountedRequest, IsTallyOf};
 ghost use Rattle.mc_metrics.specs.Gathering.{tally_at, tally_shown};
 ghost use Rattle.mc_metrics.specs.declared.gathering.Shown.{Shown};
 
-/// What a scrape shows of a tenant's requests counts those of all workers, each once: without a worker
-/// none, and with one worker more that worker's too.
+/// What a scrape shows of a tenant's requests counts those of all workers, each once: without a
+/// worker none, and with one worker more that worker's too.
 pub fn scrapes_count_for_all_workers()
     ensures none { (number : ℕ) → IsTallyOf [] (tally_shown number []) }
     ensures more { (number : ℕ) (first : Shown) (rest : List Shown)

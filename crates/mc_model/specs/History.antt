@@ -1,5 +1,8 @@
 -- What a list of commands leaves of a tenant's table that was in a given state at first, or that
 -- was opened with these quotas and is empty at first. The lists are in the order of the commands.
+-- That each command acts on what those before it have left is Herlihy's universal construction
+-- (Wait-Free Synchronization, TOPLAS 1991): the state at a cell of its list is that of the cell
+-- before it, after one more operation. Quotas are this project's profile.
 use Rattle.std.specs.Prelude.{◌≡◌, ℕ, Bool, List, [], ◌∷◌, ◌++◌}
 use Rattle.std.specs.List.{fold}
 use Rattle.mc_model.specs.declared.command.Command.{Command}

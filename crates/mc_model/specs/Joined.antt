@@ -1,4 +1,6 @@
--- Fragments of data, joined.
+-- Fragments of data, joined. They are a "data block" of memcached's doc/protocol.txt, "Storage
+-- commands", in parts, each of its own or borrowed from a command; the parts are this project's
+-- profile.
 use Rattle.std.specs.Option.{option_map, unwrap_or}
 use Rattle.std.specs.Prelude.{ℕ, Bool, true, false, List, [], ◌++◌, drop, flat_map}
 use Rattle.mc_model.specs.declared.unread.Unread.{Unread}

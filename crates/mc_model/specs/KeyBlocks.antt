@@ -1,4 +1,5 @@
--- Keys in one block: each stands after its length.
+-- Keys in one block: each stands after its length. So this project keeps the keys of a retrieval in
+-- memory, its profile; which keys are valid is said in `Key`.
 use Rattle.std.specs.Prelude.{◌≡◌, ℕ, zero, suc, true, List, [], ◌∷◌, ◌++◌, drop, length, take, Option, None, Some}
 use Rattle.std.specs.Borrow.{Bor}
 use Rattle.std.specs.List.{list_all}
@@ -22,7 +23,7 @@ pub record IsKeyBlock (count : ℕ) (bytes : List ℕ) : Type 0 where
   pub many : length (keys_in count bytes) ≡ count
   pub lawful : list_all is_lawful_key (keys_in count bytes) ≡ true
 
--- a key that stands alone
+-- the key that stands alone, if there is one
 abbrev pub lone_key : Option (Bor Key) → List Key
 lone_key None = []
 lone_key (Some key) = key.now ∷ []

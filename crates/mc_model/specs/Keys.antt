@@ -1,4 +1,6 @@
--- The keys of a list, wherever they are.
+-- The keys of a list, whether the only one stands alone or they stand in a block: the "one or more
+-- key strings" of memcached's doc/protocol.txt, "Retrieval command". Where they are kept is this
+-- project's profile.
 use Rattle.std.specs.Prelude.{List, [], ◌∷◌}
 use Rattle.mc_model.specs.declared.key.Key.{Key}
 use Rattle.mc_model.specs.declared.key_list.Keys.{Keys}

@@ -1,4 +1,5 @@
--- Kinds of commands, by what they do to any table.
+-- Kinds of commands, by their names. Retrieval is a kind in memcached's doc/protocol.txt,
+-- "Commands"; the other two are this project's profile.
 use Rattle.mc_model.specs.declared.command.Command.{Command}
 use Rattle.mc_model.specs.declared.command.Command.TheVariants.{Get, Delete, Flush, Limit}
 

@@ -9,7 +9,7 @@ use thiserror::Error;
 /// leaves.
 #[derive(Clone, Copy, Debug, PartialEq, Eq, Error)]
 pub enum Fault {
-    /// An allocation failed.
+    /// An allocation failed, or a worker's event loop didn't begin in time.
     #[error("out of memory")]
     Memory,
     /// The log has no place left for the command.
@@ -18,7 +18,8 @@ pub enum Fault {
     /// The command's cell holds another value.
     #[error("cell taken")]
     Taken,
-    /// The input failed during this call.
+    /// The input failed during this call, or something else that the system was asked for: a poll,
+    /// its waker, a listener's registration, the clock or random numbers.
     #[error("input failed")]
     Input,
     /// The output failed during this call.

@@ -152,8 +152,8 @@ impl<'a> Fragments<'a> {
         Ok(())
     }
 
-    /// Prepends a block, without copying its data. Returns `Memory` if an allocation fails; the data
-    /// are unchanged then.
+    /// Prepends a block, without copying its data. Returns `Memory` if an allocation fails; the
+    /// data are unchanged then.
     pub fn prepend(&mut self, alloc: Global, block: &'a Data) -> Result<(), Fault>
         requires { length self.old + length block.now ≤ DATA_BYTES }
         ensures joined { OnOk result (self.new ≡ block.now ++ self.old) }
@@ -180,7 +180,8 @@ impl<'a> Fragments<'a> {
     }
 
     /// Returns the same data, which borrow what these borrow. Several fragments are copied into
-    /// one, and a short one that borrows nothing is copied. Returns `Memory` if an allocation fails.
+    /// one, and a short one that borrows nothing is copied. Returns `Memory` if an allocation
+    /// fails.
     pub fn shared(&self, alloc: Global) -> Result<Fragments<'a>, Fault>
         ensures same { IfOk result (λ fragments. fragments ≡ self.now) }
         ensures memory { IsOkUnless result Fault.Memory }

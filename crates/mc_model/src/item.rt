@@ -63,8 +63,8 @@ impl Data {
     }
 
     /// Returns the block of these bytes, or `None` if there are more than `DATA_BYTES`. Copies of a
-    /// block of at least `SHARED_BYTES` share its bytes, which takes an allocation. Returns `Memory`
-    /// if that fails.
+    /// block of at least `SHARED_BYTES` share its bytes, which takes an allocation. Returns
+    /// `Memory` if that fails.
     pub fn shareable(bytes: Vec<u8>) -> Result<Option<Data>, Fault>
         ensures block { IfOk result
             (λ block. SomeIff block (vec_len bytes ≤ DATA_BYTES) bytes.items) }

@@ -9,8 +9,8 @@ use crate::{Fault, Key};
 use std::alloc::Global;
 use std::marker::Model;
 
-/// Keys one after another in one block, each after a byte with its length, so that they take as many
-/// bytes as in a line.
+/// Keys one after another in one block, each after a byte with its length, so that they take as
+/// many bytes as in a line.
 #[derive(Debug, Drop)]
 pub struct KeyBlock {
     count: usize,

@@ -1,5 +1,6 @@
 //! The observable state of the shared log: the decided places, and what each worker knows of them.
-//! Only contracts mention these values; a log keeps them in words, and the workers in seats.
+//! A phase is also a value of the code. Only contracts mention the others: a log keeps them in
+//! words, and the workers in seats.
 use crate::Ticket;
 use std::collections::LinkedList;
 

@@ -4,13 +4,13 @@ use Rattle.std.specs.Prelude.{◌≡◌, ◌<◌, ◌⊎◌, ℕ, Bool, true, Li
 use Rattle.mc_conn.specs.declared.conn.Role.{Role}
 use Rattle.mc_connections.specs.InTurn.{HaveServedInTurn, InTurn, followed_by}
 use Rattle.mc_connections.specs.Working.{IsEmpty, IsNewFor, KeepsPlaces, Standing, Works, standing}
-use Rattle.mc_connections.specs.declared.connection.Connection.{Connection}
 use Rattle.mc_net.specs.declared.ended.Ended.{Ended}
 use Rattle.mc_net.specs.declared.ended.Ended.TheVariants.{Done, Full}
 use Rattle.mc_net.specs.declared.event_loop.EventLoop.{EventLoop}
 use Rattle.mc_net.specs.declared.listener.RoleListener.{RoleListener}
 use Rattle.mc_net.specs.declared.worker_thread.WorkerThread.{WorkerThread}
 use Rattle.uc_log.specs.declared.log.Log.{Log}
+use Rattle.uc_worker.specs.AllWorkers.{AreOfLog}
 use Rattle.uc_worker.specs.declared.worker.Worker.{Worker}
 
 -- the role and the listener of each
@@ -41,14 +41,10 @@ KeepsAt reserve event_loop = KeepsPlaces reserve event_loop.ready.connections
 abbrev pub IsEmptyLoop : EventLoop → Type 0
 IsEmptyLoop event_loop = IsEmpty event_loop.ready.connections
 
--- the connections that have ended at the event loop, the latest first
-abbrev pub ended_at : EventLoop → List Connection
-ended_at event_loop = event_loop.ready.connections.ended.connections
-
 -- each worker is of the log, and there are a gate and an event loop for each, for the log's tenants
 pub record FitTogether {G : Type 0} (log : Log) (workers : List Worker) (gates : List G)
     (event_loops : List EventLoop) : Type 0 where
-  pub logs : All (λ (worker : Worker). worker.log.now ≡ log) workers
+  pub logs : AreOfLog log workers
   pub a_gate_each : length gates ≡ length workers
   pub a_loop_each : length event_loops ≡ length workers
   pub tenants : All (IsFor (length log.settings.tenants)) event_loops

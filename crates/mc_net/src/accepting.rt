@@ -162,10 +162,10 @@ impl Acceptor {
     /// Waits until every worker's loop has begun, so that no stream is handed to a thread that
     /// never runs.
     ///
-    /// On the first log no listener is registered yet, so that clients who connect don't shorten the
-    /// wait; on a later one all listeners are asked afterwards, since polls here drop what they
-    /// report. Returns `Memory` if a loop doesn't begin in time, for example because the system refuses its thread,
-    /// and `Poll` if a poll fails.
+    /// On the first log no listener is registered yet, so that clients who connect don't shorten
+    /// the wait; on a later one all listeners are asked afterwards, since polls here drop what they
+    /// report. Returns `Memory` if a loop doesn't begin in time, for example because the system
+    /// refuses its thread, and `Poll` if a poll fails.
     fn await_workers<R: Wait>(&mut self, rt: &R, mailboxes: &Mailboxes) -> Result<(), Halt>
         ensures { self.new.listeners ≡ self.old.listeners }
     {

@@ -144,12 +144,12 @@ impl EventLoop {
         }
     }
 
-    /// Admits the arrivals in the mailbox of this number, `ARRIVALS` at most. None is while all places
-    /// are taken by connections of which some haven't been served yet, since their clients may have
-    /// left: so nobody is refused a place for one that is gone already.
+    /// Admits the arrivals in the mailbox of this number, `ARRIVALS` at most. None is while all
+    /// places are taken by connections of which some haven't been served yet, since their clients
+    /// may have left: so nobody is refused a place for one that is gone already.
     ///
-    /// Returns the signal that follows them, or `None` if more may be left. Returns `Poll` if another
-    /// worker can't be woken.
+    /// Returns the signal that follows them, or `None` if more may be left. Returns `Poll` if
+    /// another worker can't be woken.
     fn admit_arrivals<R: Wait>(
         &mut self,
         rt: &R,
@@ -191,8 +191,8 @@ impl EventLoop {
         }
     }
 
-    /// Catches up with `STRIDE` places at most. Notes whether more may be decided, and whether memory
-    /// was refused.
+    /// Catches up with `STRIDE` places at most. Notes whether more may be decided, and whether
+    /// memory was refused.
     fn catch_up<G: Gate>(&mut self, worker: &mut Worker<'_>, gate: &mut G)
         ensures catches_up { CatchesUp worker.old worker.new }
         ensures same { self.new.ready.connections ≡ self.old.ready.connections }
@@ -239,8 +239,9 @@ impl EventLoop {
     }
 
     /// Returns how long a poll may wait: not at all if arrivals may be left in the mailbox, a
-    /// connection is to be served without an event or more may be decided in the log; `RETRY_MILLIS`
-    /// if memory was refused while the worker caught up; and otherwise until an event comes.
+    /// connection is to be served without an event or more may be decided in the log;
+    /// `RETRY_MILLIS` if memory was refused while the worker caught up; and otherwise until an
+    /// event comes.
     fn timeout(&self, may_have_arrivals: bool) -> Option<Duration> {
         if may_have_arrivals || !self.ready.may_wait() || self.is_behind {
             return Some(Duration::ZERO);
@@ -249,16 +250,16 @@ impl EventLoop {
             .then_some(Duration::from_millis(RETRY_MILLIS))
     }
 
-    /// Returns whether the log is to be closed: another loop has signalled so, fewer places are left
-    /// than there are workers, or its commands keep as many bytes as a log's may.
+    /// Returns whether the log is to be closed: another loop has signalled so, fewer places are
+    /// left than there are workers, or its commands keep as many bytes as a log's may.
     fn is_to_close(&self, worker: &Worker<'_>, signal: Option<Signal>) -> bool {
         signal == Some(Signal::Full) || worker.is_closing() || self.bytes >= self.most_bytes
     }
 
-    /// Serves the streams that the acceptor leaves in the mailbox of this number, until no more come
-    /// and every connection has ended. Streams that close have about two seconds to end then. If
-    /// `until_done` is set it also ends, as `Full`, once the log is to be closed; all other loops are
-    /// signalled then, so that they end too.
+    /// Serves the streams that the acceptor leaves in the mailbox of this number, until no more
+    /// come and every connection has ended. Streams that close have about two seconds to end then.
+    /// If `until_done` is set it also ends, as `Full`, once the log is to be closed; all other
+    /// loops are signalled then, so that they end too.
     ///
     /// Returns `Memory` if memory runs out, and `Poll` if a poll or a waker fails. Returns
     /// `Elsewhere` if another loop has failed; this loop's connections are closed then.

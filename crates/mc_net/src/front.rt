@@ -64,9 +64,9 @@ fn new_poll<R: Net>(rt: &R, alloc: Global) -> Result<(Poll, Mailbox), Halt> {
     }
 }
 
-/// Returns `count` event loops for logs of this many tenants, for each of which `reserve` places are
-/// kept at each loop, and the mailbox of each. A log is closed once its commands keep `log_bytes`
-/// bytes. The first loops show their workers' numbers, each by one of the publishers.
+/// Returns `count` event loops for logs of this many tenants, for each of which `reserve` places
+/// are kept at each loop, and the mailbox of each. A log is closed once its commands keep
+/// `log_bytes` bytes. The first loops show their workers' numbers, each by one of the publishers.
 ///
 /// Returns `Memory` if memory runs out, and `Poll` if a poll or a mailbox can't be made.
 fn new_event_loops<R: Net>(
@@ -119,11 +119,11 @@ fn role_listeners(
 }
 
 impl Front {
-    /// Returns the front of these listeners, for this many workers of each log of this many tenants.
-    /// It is to accept `connections` streams of tenants; 0 for no end. Each worker keeps `reserve` of
-    /// its places for each tenant. A log that another may follow is closed once its commands keep
-    /// `log_bytes` bytes, before all its places are taken. Between two rounds the first workers show
-    /// their numbers, each by one of the publishers.
+    /// Returns the front of these listeners, for this many workers of each log of this many
+    /// tenants. It is to accept `connections` streams of tenants; 0 for no end. Each worker keeps
+    /// `reserve` of its places for each tenant. A log that another may follow is closed once its
+    /// commands keep `log_bytes` bytes, before all its places are taken. Between two rounds the
+    /// first workers show their numbers, each by one of the publishers.
     ///
     /// Returns `Memory` if memory runs out, and `Input` if a poll or a mailbox can't be made.
     pub fn new<R: Net>(
@@ -168,19 +168,19 @@ impl Front {
     }
 
     /// Lets these workers of one log serve, each at the event loop of its index and in a thread of
-    /// its own if one can be made, until no more streams are to come and every connection has ended:
-    /// that is `Done`. Unless the log is the last one, serving also ends, as `Full`, once a worker
-    /// finds that its log is closing, or that its commands keep as many bytes as a log's may: then
-    /// commands wait and are first on the next log, and the connections and the streams that come
-    /// stay with the front. Returns the workers in their order; places may be left, which
+    /// its own if one can be made, until no more streams are to come and every connection has
+    /// ended: that is `Done`. Unless the log is the last one, serving also ends, as `Full`, once a
+    /// worker finds that its log is closing, or that its commands keep as many bytes as a log's
+    /// may: then commands wait and are first on the next log, and the connections and the streams
+    /// that come stay with the front. Returns the workers in their order; places may be left, which
     /// `Worker::fill` fills.
     ///
-    /// When every worker's loop has begun, and before anything is accepted, `begin` is called, once,
-    /// with the state. Returns `Memory` if a loop doesn't begin within about ten seconds, for example
-    /// because the system refuses its thread, or if memory runs out outside a connection and the
-    /// queues. Returns `Input` if a poll or a waker fails, or a listener can't be registered, and the
-    /// fault of `begin` if that returns one. All loops have ended then, and every connection is
-    /// closed.
+    /// When every worker's loop has begun, and before anything is accepted, `begin` is called,
+    /// once, with the state. Returns `Memory` if a loop doesn't begin within about ten seconds, for
+    /// example because the system refuses its thread, or if memory runs out outside a connection
+    /// and the queues. Returns `Input` if a poll or a waker fails, or a listener can't be
+    /// registered, and the fault of `begin` if that returns one. All loops have ended then, and
+    /// every connection is closed.
     pub fn serve_generation<'a, R, G, B, O>(
         &mut self,
         rt: &R,
@@ -217,10 +217,11 @@ impl Front {
         ensures back { IfOk result (λ pair. AllZip Continues workers.entry.items pair.0.items) }
         ensures logs { IfOk result
             (λ pair. All (λ worker. worker.log.now ≡ log.entry.now) pair.0.items) }
-        // One run of the log, from its opening, has all calls of these workers' seats, in order, and
-        // no other events of theirs.
+        // One run of the log, from its opening, has all calls of these workers' seats, in order,
+        // and no other events of theirs.
         ensures run { IfOk result (λ pair. AreOnOneRun pair.0.items) }
-        // The front is one for as many workers and tenants as before.
+        // Without a fault the front has as many event loops as before; after one it has none. It is
+        // for as many tenants as before in either case.
         ensures loops { IfOk result
             (λ _. vec_len self.new.event_loops ≡ vec_len self.old.event_loops) }
         ensures tenants { self.new.tenants ≡ self.old.tenants }

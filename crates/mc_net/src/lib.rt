@@ -5,8 +5,8 @@
 //! log alone with `serve`.
 //!
 //! `specs/Handing.antt` says which stream goes where, `specs/Running.antt` what the loops leave,
-//! `specs/Returning.antt` what comes back of one log, and `specs/Beginning.antt` what is left of the
-//! state with which serving begins. What becomes of connections `mc_connections` says.
+//! `specs/Returning.antt` what comes back of one log, and `specs/Beginning.antt` what is left of
+//! the state with which serving begins. What becomes of connections `mc_connections` says.
 #![tactic(auto)]
 
 pub use beginning::Begin;

@@ -11,7 +11,8 @@ use std::collections::VecDeque;
 use std::io;
 use std::sync::{Mutex, Wait};
 
-/// What a loop is signalled while a log is served. Signals come in this order, and none is taken back.
+/// What a loop is signalled while a log is served. Signals come in this order, and none is taken
+/// back.
 #[derive(Clone, Copy, Debug, PartialEq, Eq, PartialOrd, Ord)]
 pub(crate) enum Signal {
     /// The loop hasn't begun yet.
@@ -94,8 +95,8 @@ impl Mailbox {
         }
     }
 
-    /// Puts an offer into the queue, and wakes the loop; gives it back if the loop has ended. If the
-    /// queue can't grow the stream is closed.
+    /// Puts an offer into the queue, and wakes the loop; gives it back if the loop has ended. If
+    /// the queue can't grow the stream is closed.
     ///
     /// Returns `Poll` if the loop can't be woken.
     fn put<R: Wait>(&self, rt: &R, offer: Offer) -> Result<Option<Offer>, Halt> {

@@ -38,8 +38,9 @@ pub(crate) fn publish(
     }
 }
 
-/// Shows how the worker has answered the requests of the tenants whose connections were served since
-/// this was last done, if there is a publisher. Takes no lock and makes no call of the system.
+/// Shows how the worker has answered the requests of the tenants whose connections were served
+/// since this was last done, if there is a publisher. Takes no lock and makes no call of the
+/// system.
 pub(crate) fn publish_tallies(
     publisher: &mut Option<Publisher>,
     tenants: usize,

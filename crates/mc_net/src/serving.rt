@@ -42,13 +42,13 @@ pub fn into_workers<'a>(
 /// A stream is a connection of its listener's role, a tenant or an administrator, and streams go to
 /// the workers round-robin. With `connections` above 0, serving ends once this many streams of
 /// tenants were accepted and every connection has ended: the workers are returned in their order,
-/// each with the connections that it has served. With 0 it doesn't end. A fault of a connection ends
-/// that one alone.
+/// each with the connections that it has served. With 0 it doesn't end. A fault of a connection
+/// ends that one alone.
 ///
-/// When every worker's loop has begun and before anything is accepted, `begin` is called, once, with
-/// the state. Returns `Memory` if a loop doesn't begin within about ten seconds, for example because
-/// the system refuses its thread, or if memory runs out outside a connection and the queues.
-/// Returns `Input` if a poll or its waker can't be made or fails, or a listener can't be
+/// When every worker's loop has begun and before anything is accepted, `begin` is called, once,
+/// with the state. Returns `Memory` if a loop doesn't begin within about ten seconds, for example
+/// because the system refuses its thread, or if memory runs out outside a connection and the
+/// queues. Returns `Input` if a poll or its waker can't be made or fails, or a listener can't be
 /// registered, and the fault of `begin` if that returns one. All loops have ended then.
 pub fn serve<'a, R: Threads + Wait + Net + Sync, G: Gate + Send + Drop, B: Begin<O>, O>(
     rt: &R,
@@ -94,7 +94,8 @@ pub fn serve<'a, R: Threads + Wait + Net + Sync, G: Gate + Send + Drop, B: Begin
     mc_connections::laws::connections_are_answered_over_logs();
     mc_connections::laws::commands_are_asked_for_over_logs();
     let tenants = log.settings().tenants().len();
-    // No tenant has a reserve, the only log isn't closed before its last place, and nobody looks on.
+    // No tenant has a reserve, the only log isn't closed before its last place, and nobody looks
+    // on.
     let reserve = 0;
     let bytes = u64::MAX;
     let publishers = Vec::new(alloc);

@@ -3,8 +3,8 @@ use crate::clients::Act;
 use crate::visits::{QUOTAS, Visit, check};
 use std::test::Fail;
 
-/// The administrator connects first, at the last listener, and lowers the quotas between two sets of
-/// a client. Another client, served by the other worker, finds them lowered too.
+/// The administrator connects first, at the last listener, and lowers the quotas between two sets
+/// of a client. Another client, served by the other worker, finds them lowered too.
 const LOWERED: [Act<'static>; 12] = [
     Act::Connect(1),
     Act::Connect(0),

@@ -2,8 +2,8 @@
 use fair_queue::{FairQueue, Ready};
 use std::alloc::{AllocError, Global};
 
-/// A quantum of ten, three flows, two keys in the first and one in the third, each of which costs this
-/// much: returns whether they're given in this order.
+/// A quantum of ten, three flows, two keys in the first and one in the third, each of which costs
+/// this much: returns whether they're given in this order.
 fn are_given(alloc: Global, costs: &[u64], order: &[(usize, usize)]) -> Result<bool, AllocError> {
     let mut queue = FairQueue::new(alloc, 3, 10, 4)?;
     queue.push(0, 1)?;
@@ -35,8 +35,8 @@ fn a_turn_ends_once_its_quantum_is_spent(rt: HostRuntime) {
     assert!(rt; given == Ok(true));
 }
 
-/// Returns whether the turn of a flow with two keys ends where its quantum of ten is spent, or its last
-/// key was given.
+/// Returns whether the turn of a flow with two keys ends where its quantum of ten is spent, or its
+/// last key was given.
 fn ends_where_it_is_to(alloc: Global) -> Result<bool, AllocError> {
     let mut queue = FairQueue::new(alloc, 2, 10, 4)?;
     queue.push(1, 1)?;

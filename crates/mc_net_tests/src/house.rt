@@ -145,8 +145,8 @@ impl Begin<u32> for Counting {
     }
 }
 
-/// Serves `connections` connections of tenants by as many workers as there are gates, and returns the number
-/// of each entry's tenant, in the log's order.
+/// Serves `connections` connections of tenants by as many workers as there are gates, and returns
+/// the number of each entry's tenant, in the log's order.
 ///
 /// Returns `BadEvent` if serving didn't begin exactly once, or if the workers' histories differ.
 pub(crate) fn served<R: Threads + Wait + Net + Sync>(

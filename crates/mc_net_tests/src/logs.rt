@@ -30,8 +30,8 @@ fn can_be_followed(workers: &[Worker<'_>], places: u64) -> bool
         .all(|worker| worker.is_done() && worker.has_room(places))
 }
 
-/// Fills the places that are left in a log whose workers have come back, closes it, and opens the one
-/// that follows it.
+/// Fills the places that are left in a log whose workers have come back, closes it, and opens the
+/// one that follows it.
 fn next_log(alloc: Global, log: &Log, workers: &mut [Worker<'_>]) -> Result<Next, Fault>
     requires { All (λ worker. worker.log.now ≡ log.now) workers.old }
     ensures settings { IfOk result (λ next. next.log.settings ≡ log.now.settings) }
@@ -98,8 +98,9 @@ fn serve_last<R: Threads + Wait + Sync>(
     Ok(ended)
 }
 
-/// Serves `connections` connections of tenants over two logs of this many places, by as many workers
-/// as there are gates, which hold them on the first log only. Returns how serving each log ended.
+/// Serves `connections` connections of tenants over two logs of this many places, by as many
+/// workers as there are gates, which hold them on the first log only. Returns how serving each log
+/// ended.
 ///
 /// Returns `BadEvent` if serving a log didn't begin exactly once, or the first log wasn't full.
 fn serve_two<R: Threads + Wait + Net + Sync>(
@@ -206,8 +207,9 @@ fn a_connection_outlives_its_log(rt: HostRuntime) -> Result<(), Fail> {
 }
 
 /// The first client's worker is held after it has announced the client's command, until the other
-/// has left one place of six: after two sets, the command that it helps, and two of its client's own.
-/// The third of those is left to the next log, since the last place is kept for the held worker.
+/// has left one place of six: after two sets, the command that it helps, and two of its client's
+/// own. The third of those is left to the next log, since the last place is kept for the held
+/// worker.
 ///
 /// The third place is the first worker's turn, so its command comes before those of the other. Each
 /// command counts once: four make `n` four, and one makes `m` one.

@@ -22,8 +22,8 @@ pub(crate) const QUOTAS: Limits = Limits {
 #[derive(Clone, Copy)]
 pub(crate) struct Visit<'a> {
     pub(crate) quotas: &'a [Limits],
-    /// Which tenant each listener belongs to; administrators have one after these, at which a tenant
-    /// has a letter as its name.
+    /// Which tenant each listener belongs to; administrators have one after these, at which a
+    /// tenant has a letter as its name.
     pub(crate) listeners: &'a [u8],
     pub(crate) workers: usize,
     pub(crate) acts: &'a [Act<'a>],

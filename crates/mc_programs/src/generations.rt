@@ -74,9 +74,9 @@ fn serve_to_end<R: Wait, I: Input, O: Output>(
     Ok(None)
 }
 
-/// Serves the client with this worker of this log, with which nothing was done yet, until the client
-/// has ended, or the log is full and the next one is opened, which is returned. The last log is never
-/// followed by another, nor is one that can't be: it serves the client to the end.
+/// Serves the client with this worker of this log, with which nothing was done yet, until the
+/// client has ended, or the log is full and the next one is opened, which is returned. The last log
+/// is never followed by another, nor is one that can't be: it serves the client to the end.
 ///
 /// Returns the errors of `pump`.
 fn serve_log<R: Wait, T: TurnOver, I: Input, O: Output>(

@@ -105,7 +105,8 @@ fn open(
     })
 }
 
-/// Serves a client on up to this many logs of this many places, each but the first opened by `over`.
+/// Serves a client on up to this many logs of this many places, each but the first opened by
+/// `over`.
 fn serve_turned(
     rt: &(impl Wait + AllocGlobal),
     over: &impl TurnOver,
@@ -555,8 +556,8 @@ fn a_failing_push_ends_it(rt: HostRuntime) -> Result<(), Fault> {
     Ok(())
 }
 
-/// Asserts that a push that fails after those of one long reply, which are its line, its data and its
-/// end, ends serving a text with repeated words.
+/// Asserts that a push that fails after those of one long reply, which are its line, its data and
+/// its end, ends serving a text with repeated words.
 fn check_failing_fourth(
     rt: &(impl AllocGlobal + Wait + Abort),
     sent: Text,

@@ -359,8 +359,8 @@ fn what_cannot_be_served_is_refused(rt: HostRuntime) -> Result<(), AllocError> {
     Ok(())
 }
 
-/// Asserts that a run with these words, and `--check` before them, ends with this status, and prints
-/// and reports this.
+/// Asserts that a run with these words, and `--check` before them, ends with this status, and
+/// prints and reports this.
 fn check_checked<R>(rt: &R, given: &str, wanted: Wanted) -> Result<(), AllocError>
 where
     R: Threads

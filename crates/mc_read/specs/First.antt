@@ -1,4 +1,6 @@
--- The request at the front of a byte list, computed.
+-- The request at the front of a byte list, computed; `Text` has it as a relation. After memcached's
+-- doc/protocol.txt, "Protocol" and "Storage commands"; that a line feed alone ends a line, and how
+-- long a line may be, are this project's profile.
 use Rattle.std.specs.Prelude.{ℕ, ◌+◌, Bool, ◌==◌, nat_lt, nat_le, if◌then◌else◌, List, length, take, drop, Option, Some, None}
 use Rattle.std.specs.List.{after_first, before_first, position_or_len}
 use Rattle.mc_model.specs.declared.request.Request.{Request}

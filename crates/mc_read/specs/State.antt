@@ -1,4 +1,5 @@
--- What a reader's fields mean, and what is true of them.
+-- What a reader's fields mean, and what is true of them; this project's profile. What bytes read as
+-- is said in `Reading`.
 use Rattle.std.specs.Prelude.{◌≡◌, ℕ, ◌+◌, ◌-◌, ◌^◌, ◌<◌, ◌≤◌, min, ◌⊎◌, Bool, if◌then◌else◌, List, [], length, take, drop, Option, Some, None}
 use Rattle.mc_model.specs.declared.item.Data.{Data}
 use Rattle.mc_model.specs.declared.item.TheConstants.{DATA_BYTES}

@@ -1,4 +1,5 @@
--- The words of the code as the definitions see them.
+-- The words of a storage line, which the code borrows, as `Line` has them; they are those of
+-- memcached's doc/protocol.txt, "Storage commands".
 use Rattle.std.specs.Option.{option_copied}
 use Rattle.mc_read.specs.declared.storage.StorageLine as code
 use Rattle.mc_read.specs.Line.{StorageLine}

@@ -329,8 +329,8 @@ fn take_slice(state: &mut State, buffer: &mut Source, piece: &[u8]) -> Result<()
 /// Reads requests from a stream that comes in pieces of any size.
 ///
 /// What is kept once `next` has returned `None` is bounded: of a line no more than it may have, of
-/// a refused block nothing, and of a block that is to be stored no more than has arrived. Memory for
-/// all of a long block is asked for once its length is known.
+/// a refused block nothing, and of a block that is to be stored no more than has arrived. Memory
+/// for all of a long block is asked for once its length is known.
 #[derive(Debug, Drop)]
 pub struct Reader {
     alloc: Global,

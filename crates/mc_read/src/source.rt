@@ -22,7 +22,7 @@ use std::marker::Model;
 const LONG_BYTES: usize = 4_096;
 
 /// The most bytes for which an awaited block has room behind it.
-const SPARE_BYTES: usize = 16_384;
+const ROOM_BEHIND: usize = 16_384;
 
 /// The piece that arrived last, and before it what is left of the pieces before. If requests are
 /// asked for after each piece, this is no more than a request that goes on in the last piece.
@@ -139,7 +139,8 @@ impl Source {
         Ok(())
     }
 
-    /// Appends a copy of a piece. Returns `Memory` if an allocation fails; nothing is appended then.
+    /// Appends a copy of a piece. Returns `Memory` if an allocation fails; nothing is appended
+    /// then.
     #[inline(always)]
     pub fn extend(&mut self, piece: &[u8]) -> Result<(), Fault>
         ensures bytes { OnOk result (self.new ≡ self.old ++ piece.now) }
@@ -159,7 +160,7 @@ impl Source {
         ensures { self.new ≡ self.old }
     {
         if size >= LONG_BYTES {
-            self.rest.expect(line + size + (size / 2).min(SPARE_BYTES));
+            self.rest.expect(line + size + (size / 2).min(ROOM_BEHIND));
         }
     }
 

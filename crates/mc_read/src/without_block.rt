@@ -23,8 +23,8 @@ fn logged(command: Command, quiet: bool) -> Asked
     Asked::LineOnly(Request::Logged { command, quiet })
 }
 
-/// Returns the keys of a retrieval, whose words are valid keys, in a block for which there is room of
-/// this size. Returns `Memory` if an allocation fails.
+/// Returns the keys of a retrieval, whose words are valid keys, in a block for which there is room
+/// of this size. Returns `Memory` if an allocation fails.
 fn read_keys(alloc: Global, words: Words<'_>, size: usize) -> Result<KeyBlock, Fault>
     requires { list_all is_lawful_key words ≡ true }
     ensures keys { IfOk result (λ keys. keys ≡ words.entry) }

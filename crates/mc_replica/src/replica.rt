@@ -85,8 +85,8 @@ impl<'a> Replica<'a> {
     }
 
     /// Returns this worker's replica, which has seen nothing, over the tables of this base: its own
-    /// tables borrow their items from them. The history's capacity, `places`, is reserved here, once.
-    /// Returns `Memory` if an allocation fails.
+    /// tables borrow their items from them. The history's capacity, `places`, is reserved here,
+    /// once. Returns `Memory` if an allocation fails.
     pub fn open_over(
         alloc: Global,
         worker: WorkerId,
@@ -234,8 +234,8 @@ impl<'a> Replica<'a> {
         *worker
     }
 
-    /// Returns the tables that it was opened over, indexed by tenant number, or `None` if those were
-    /// empty.
+    /// Returns the tables that it was opened over, indexed by tenant number, or `None` if those
+    /// were empty.
     pub fn base(&self) -> Option<&'a [Items]>
         ensures over { IfSome result (λ base. base.now ≡ self.now.openings) }
         ensures empty { result ≡ None →

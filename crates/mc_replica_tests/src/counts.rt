@@ -1,5 +1,5 @@
-//! Of requests of every kind each number is counted once, what is published is shown, and the resident
-//! memory is found.
+//! Of requests of every kind each number is counted once, what is published is shown, and the
+//! resident memory is found.
 use mc_counters::{
     Asked, Board, COMMAND_KINDS, CommandKind, LogBoard, LogPublisher, LogShown, Publisher,
     REFUSAL_KINDS, Tally, TenantShown, WorkerShown, new_board, new_log_board, resident_in,

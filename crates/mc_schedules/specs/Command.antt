@@ -1,6 +1,6 @@
 -- The commands of an event list: one function of the words of each. They are memcached's, one line
--- each, with the data as a word, and the one that sets the tenant's quotas; this form is this project's
--- profile.
+-- each, with the data as a word, and the one that sets the tenant's quotas; this form is this
+-- project's profile.
 use Rattle.std.specs.Prelude.{ℕ, Bool, true, false, ◌&&◌, nat_lt, nat_le, if◌then◌else◌, List, [], ◌∷◌, length, Option, Some, None, option_map, codes}
 use Rattle.std.specs.List.{list_all}
 use Rattle.mc_model.specs.declared.command.Command.{Command}

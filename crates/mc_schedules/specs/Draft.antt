@@ -1,4 +1,5 @@
--- What the code keeps of the lines so far.
+-- What the code keeps of the lines of an event list so far; this project's profile, as the form of
+-- the list is.
 use Rattle.std.specs.Prelude.{◌≡◌, true, List, [], ◌∷◌, ◌++◌, Option, Some, None}
 use Rattle.mc_schedules.specs.declared.draft.Draft.{Draft}
 use Rattle.mc_schedules.specs.Place.{Statement, cores, is_in_place, items, tenants}

@@ -1,4 +1,4 @@
--- The lines of an event list, and what each says by its words.
+-- The lines of an event list, and what each says by its words; this form is this project's profile.
 use Rattle.std.specs.Prelude.{ℕ, Bool, false, ◌==◌, if◌then◌else◌, List, [], ◌∷◌, Option, Some, None, option_map, codes}
 use Rattle.std.specs.List.{slice_split}
 use Rattle.mc_model.specs.declared.command.Command.{Command}

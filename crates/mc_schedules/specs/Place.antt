@@ -1,4 +1,5 @@
--- Which lines may follow which: first the core line, then 1 to 64 tenant lines, then the actions.
+-- Which lines of an event list may follow which: first the core line, then 1 to 64 tenant lines,
+-- then the actions; this form is this project's profile.
 use Rattle.std.specs.Prelude.{ℕ, Bool, true, false, ◌&&◌, not, nat_lt, if◌then◌else◌, List, [], ◌∷◌, ◌++◌, length, map, Option, Some, None, filter_map}
 use Rattle.std.specs.List.{enumerate_from}
 use Rattle.mc_model.specs.declared.settings.Limits.{Limits}

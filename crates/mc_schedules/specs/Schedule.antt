@@ -1,4 +1,5 @@
--- What an event list reads as: settings and actions, or the number of its first bad line.
+-- What an event list reads as: settings and actions, or the number of its first bad line; this form
+-- is this project's profile.
 use Rattle.std.specs.Prelude.{ℕ, nat_lt, if◌then◌else◌, List, [], ◌∷◌, length, Option, Some, None}
 use Rattle.mc_model.specs.declared.settings.Limits.{Limits}
 use Rattle.mc_schedules.specs.declared.schedule.Item.{Item}

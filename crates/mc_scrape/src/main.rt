@@ -1,5 +1,5 @@
-//! Answers the HTTP requests of standard input on standard output with the metrics of an example, as
-//! a listener for scrapes would. It is there for its output: `tests/exposition.py` knows the
+//! Answers the HTTP requests of standard input on standard output with the metrics of an example,
+//! as a listener for scrapes would. It is there for its output: `tests/exposition.py` knows the
 //! example's numbers, and holds the output against Prometheus' text format.
 #![tactic(auto)]
 

@@ -24,8 +24,8 @@ const MOST_SECONDS: u64 = 10;
 /// How many events a poll reports at most.
 const EVENTS: usize = 64;
 
-/// How long a poll waits at most while there are connections, in milliseconds, so that they are closed
-/// in time.
+/// How long a poll waits at most while there are connections, in milliseconds, so that they are
+/// closed in time.
 const TICK_MILLIS: u64 = 1_000;
 
 /// The token of the listener, after those of the connections.
@@ -62,11 +62,11 @@ pub struct Scraper {
     alloc: Global,
 }
 
-/// Returns the loop of a listener without connections, which answers by these boards, and what stops
-/// it.
+/// Returns the loop of a listener without connections, which answers by these boards, and what
+/// stops it.
 ///
-/// Returns `Memory` if memory runs out, and `Input` if the poll can't be made or the listener can't be
-/// registered.
+/// Returns `Memory` if memory runs out, and `Input` if the poll can't be made or the listener can't
+/// be registered.
 pub fn new_scraper<R: Net>(
     rt: &R,
     alloc: Global,
@@ -106,8 +106,8 @@ pub fn new_scraper<R: Net>(
     Ok((scraper, stop))
 }
 
-/// Returns whether there is a connection at this place that is to be served: there is an event for it, or
-/// it has more to do.
+/// Returns whether there is a connection at this place that is to be served: there is an event for
+/// it, or it has more to do.
 fn is_ready(events: &Events, place: usize, visit: &Option<Visit>) -> bool {
     match visit {
         Some(visit) => {
@@ -184,9 +184,9 @@ impl Scraper {
         }
     }
 
-    /// Returns how long a poll may wait: not at all if a connection is to be served without an event, a
-    /// second if there are connections, so that they are closed in time, and otherwise until an event
-    /// comes.
+    /// Returns how long a poll may wait: not at all if a connection is to be served without an
+    /// event, a second if there are connections, so that they are closed in time, and otherwise
+    /// until an event comes.
     fn timeout(&self) -> Option<Duration> {
         let mut visits = self.visits.iter().flatten();
         if visits.any(|visit| visit.has_more) {

@@ -15,7 +15,8 @@ const MOST_HEAD: usize = 8_192;
 /// How many bytes a read is given room for at least.
 const READ_SIZE: usize = 1_024;
 
-/// How many reads and writes a connection gets in a round at most, so that the others get theirs soon.
+/// How many reads and writes a connection gets in a round at most, so that the others get theirs
+/// soon.
 const STEPS: u32 = 16;
 
 /// A stream, what is held of its requests and answers, and when it began.
@@ -59,8 +60,8 @@ impl Visit {
         }
     }
 
-    /// Writes once if something is pending, and reads once otherwise. Returns whether the stream took
-    /// or gave anything.
+    /// Writes once if something is pending, and reads once otherwise. Returns whether the stream
+    /// took or gave anything.
     ///
     /// Returns the stream's error, and `ConnectionAborted` if nothing more is to be done.
     fn step(&mut self, scrape: &mut Scrape) -> io::Result<bool> {

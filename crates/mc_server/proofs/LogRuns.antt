@@ -15,8 +15,9 @@ use Rattle.mc_model.specs.declared.shown.LogSize.{LogSize}
 use Rattle.mc_model.specs.Replay.{EachStands, HaveRoom}
 use Rattle.mc_model.specs.Settings.{Configuration}
 use Rattle.mc_model.specs.State.{TableState}
-use Rattle.mc_net.specs.Running.{HasBeenServedBy, IsEmptyLoop, IsNewLoop, ended_at}
+use Rattle.mc_net.specs.Running.{HasBeenServedBy, IsEmptyLoop, IsNewLoop}
 use Rattle.mc_net.specs.declared.ended.Ended.{Ended}
+use Rattle.mc_connections.specs.declared.connection.Connection.{Connection}
 use Rattle.mc_net.specs.declared.event_loop.EventLoop.{EventLoop}
 use Rattle.mc_net.specs.declared.front.Front.{Front}
 use Rattle.mc_server.proofs.NetworkRuns.{are_workers}
@@ -131,6 +132,10 @@ AreAnswered = (who : InTurn) (connections : Connections) → HaveServedInTurn wh
 
 abbrev pub AreAsked : Type 0
 AreAsked = (who : InTurn) (connections : Connections) → HaveServedInTurn who connections → IsEmpty connections → HaveBeenAsked who.begun who.served connections.ended.connections
+
+-- the connections that have ended at the event loop, the latest first
+abbrev ended_at : EventLoop → List Connection
+ended_at event_loop = event_loop.ready.connections.ended.connections
 
 all_answered : AreAnswered → AreAsked → (who : List InTurn) (loops : List EventLoop) → AllZip HasBeenServedBy who loops → All IsEmptyLoop loops → AllZip IsAnsweredBy who (map ended_at loops)
 all_answered answered asked [] [] by over = tt

@@ -12,7 +12,7 @@ use Rattle.lists.specs.Lists.{BeginsWith}
 use Rattle.mc_model.specs.Legal.{IsLegal, count}
 use Rattle.mc_model.specs.Settings.{Configuration}
 use Rattle.mc_server.specs.Listeners.{CountsFrom}
-use Rattle.mc_server.specs.Crew.{AreOf, AreWorkersOf, HasMet, HaveMet, MeetsAnother, WasAnnounced, number_of, tickets_of}
+use Rattle.mc_server.specs.Crew.{AreWorkersOf, HasMet, HaveMet, MeetsAnother, WasAnnounced, number_of, tickets_of}
 use Rattle.uc_worker.specs.Going.{CatchesUp}
 use Rattle.uc_worker.specs.Worker.{IsUpToDate, announced_of, history_of, seat_of}
 use Rattle.uc_worker.specs.Cited.{Sighting}
@@ -21,6 +21,7 @@ use Rattle.uc_worker.specs.contracts.laws.WorkerGoesOn.TheImpl.{continues_self-v
 use Rattle.uc_worker.specs.Steps.{Rests}
 use Rattle.lists.proofs.Public.{begins_longer, begins_self, begins_through, begins_whole}
 use Rattle.uc_worker.specs.declared.worker.Worker.{Worker}
+use Rattle.uc_worker.specs.AllWorkers.{AreOfLog}
 
 -- a worker that goes on without announcing, and its phase between two calls
 pub catches_self : (worker : Worker) → CatchesUp worker worker
@@ -119,7 +120,7 @@ all_later_on old new (x ∷ xs) [] after later met = absurd later
 all_later_on old new (x ∷ xs) (y ∷ ys) [] later met = absurd met
 all_later_on old new (x ∷ xs) (y ∷ ys) (z ∷ zs) later met = (catches_through x y z later.0 met.0.later, all_later_on old new xs ys zs later.1 met.1)
 
-pub all_of : (log : Log) (old new : Worker) (workers after : List Worker) → AllZip (MeetsAnother old new) workers after → AreOf log workers → AreOf log after
+pub all_of : (log : Log) (old new : Worker) (workers after : List Worker) → AllZip (MeetsAnother old new) workers after → AreOfLog log workers → AreOfLog log after
 all_of log old new [] [] met of = of
 all_of log old new [] (y ∷ ys) met of = absurd met
 all_of log old new (x ∷ xs) [] met of = absurd met
@@ -154,7 +155,7 @@ all_have_come old one (x ∷ xs) (y ∷ ys) [] still later met = absurd met
 all_have_come old one (x ∷ xs) (y ∷ ys) (z ∷ zs) still later met =
     (has_come old one x y z still later.0 met.0, all_have_come old one xs ys zs still later.1 met.1)
 
-all_met : (one : Worker) (workers after : List Worker) → AreOf one.log.now workers → AllZip (HasCome one) workers after → All (HasMet one) workers
+all_met : (one : Worker) (workers after : List Worker) → AreOfLog one.log.now workers → AllZip (HasCome one) workers after → All (HasMet one) workers
 all_met one [] [] of come = All-nil (HasMet one)
 all_met one [] (y ∷ ys) of come = absurd come
 all_met one (x ∷ xs) [] of come = absurd come
@@ -201,7 +202,7 @@ have_met settings log workers after first one number all among later whole come 
       among = among;
       one = one;
       later = later;
-      met = all_met one workers after (subst (λ log. AreOf log workers) (sym of_one) all.of) come;
+      met = all_met one workers after (subst (λ log. AreOfLog log workers) (sym of_one) all.of) come;
       whole = whole;
       once = once_each one whole;
       announced = λ place other inside.

@@ -18,7 +18,7 @@ use Rattle.mc_server.proofs.Waited.{all_more, fails_more}
 use Rattle.mc_server.proofs.Numbered.{asked_roles}
 use Rattle.mc_server.proofs.TenantLists.{mapped}
 use Rattle.mc_server.specs.Listeners.{AreAsked, CountsFrom, StopsListening, asked_at, clients_asked, listener_if, roles_asked}
-use Rattle.mc_server.specs.Crew.{AreOf, AreWorkersOf, number_of}
+use Rattle.mc_server.specs.Crew.{AreWorkersOf, number_of}
 use Rattle.mc_server.specs.Network.{IsReady, IsServed, StopsRun, StopsServing, names_of}
 use Rattle.mc_server.specs.Logs.{WereServed}
 use Rattle.mc_server.specs.NetworkTexts.{done_line, ready_text}
@@ -33,6 +33,7 @@ use Rattle.mc_server.specs.declared.wanted.Wanted.{Wanted}
 use Rattle.mc_stream.specs.Stream.{Outflow}
 use Rattle.uc_log.specs.declared.log.Log.{Log}
 use Rattle.uc_worker.specs.declared.worker.Worker.{Worker}
+use Rattle.uc_worker.specs.AllWorkers.{AreOfLog}
 
 -- a fault ended the service before the tenants had been served
 pub serving_halts : {O : Type 0} (tells : O → Outflow) (settings : Configuration) (most : ℕ) (fault : Fault) (text : List ℕ) (listening : List Listening) (before after : O) → text ≡ ready_text listening
@@ -57,7 +58,7 @@ finished settings most number were (Err fault) listening before now after ready 
     inr (inr (inr (number, were, fails_more (ready_text listening) (done_line number) before now after ready fault fails)))
 
 -- the workers that come back are of the log, and as many
-back_of : (log : Log) (workers back : List Worker) → AllZip Continues workers back → AreOf log workers → AreOf log back
+back_of : (log : Log) (workers back : List Worker) → AllZip Continues workers back → AreOfLog log workers → AreOfLog log back
 back_of log [] [] onward of = of
 back_of log [] (y ∷ ys) onward of = absurd onward
 back_of log (x ∷ xs) [] onward of = absurd onward

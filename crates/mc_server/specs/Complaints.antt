@@ -1,5 +1,5 @@
--- Why what is given on wfmc's command line can't be served, and by which of its words; this project's
--- profile.
+-- Why what is given on wfmc's command line can't be served, and by which of its words; this
+-- project's profile.
 use Rattle.std.specs.List.{before_first}
 use Rattle.std.specs.Net.Grammar.{IsSocketV4Text}
 use Rattle.std.specs.Option.{IsSomeAnd}
@@ -69,8 +69,8 @@ pub record IsCutInto (word : Text) (parts : TenantParts) : Type 0 where
 abbrev pub SpellsQuota : ℕ → Text → Type 0
 SpellsQuota limit text = IsSomeAnd (u64_of text) (IsBetween 1 limit)
 
--- this part of a tenant's word is wrong: the word can't be cut, or it can, and the part says nothing
--- that may be said there
+-- this part of a tenant's word is wrong: the word can't be cut, or it can, and the part says
+-- nothing that may be said there
 abbrev pub IsWrongPart : Text → Part → Type 0
 IsWrongPart word Form = (parts : TenantParts) → ¬ (IsCutInto word parts)
 IsWrongPart word Name = (parts : TenantParts) × IsCutInto word parts
@@ -90,8 +90,8 @@ FitsAlone word = (tenant : TenantAsked) × Says word tenant × AreLawfulLimits t
 abbrev pub name_part : Text → Text
 name_part word = before_first (λ byte. byte == 61) word
 
--- the names that no two listeners may have: those of administrators' and of metrics', if there are to
--- be such, and the tenants'
+-- the names that no two listeners may have: those of administrators' and of metrics', if there are
+-- to be such, and the tenants'
 abbrev pub names_given : NetworkGiven → List Text
 names_given given = reserved_names given.admin given.metrics ++ map name_part given.tenants
 

@@ -1,6 +1,6 @@
 -- The logs of a run of wfmc as runs of the core, the machine of the headline. Herlihy's universal
--- construction (Wait-Free Synchronization, TOPLAS 1991) knows no no-ops: that they belong to a tenant
--- of their own is this project's profile.
+-- construction (Wait-Free Synchronization, TOPLAS 1991) knows no no-ops: that they belong to a
+-- tenant of their own is this project's profile.
 use Rattle.std.specs.List.{AllZip}
 use Rattle.std.specs.Prelude.{◌≡◌, ◌<◌, ◌≤◌, ℕ, Bool, List, [], ◌∷◌, ◌++◌, Some, length, slice_get}
 use Rattle.mc_connections.specs.Working.{Standing, Works}
@@ -20,8 +20,8 @@ use Rattle.uc_worker.specs.declared.worker.Worker.{Worker}
 abbrev pub with_tenant : Limits → Configuration → Configuration
 with_tenant limits settings = record settings { tenants = settings.tenants ++ limits ∷ [] }
 
--- What these workers have done on their log is one run of the core, which opens over the tables that
--- the log was opened over, and an empty one of the tenant to whom the no-ops belong.
+-- What these workers have done on their log is one run of the core, which opens over the tables
+-- that the log was opened over, and an empty one of the tenant to whom the no-ops belong.
 abbrev pub IsOneCoreRun : Configuration → List TableState → List Worker → Type 0
 IsOneCoreRun settings tables workers = (limits : Limits) →
     DoOneCoreRun (with_tenant limits settings) (length settings.tenants)
@@ -51,8 +51,8 @@ ClosedLogsAnswerOwn = (settings : Configuration) (log : Log) (tables after : Lis
     (tables ++ empty_table limits ∷ []) closes.closed) →
     AnswersOwn (length settings.tenants) tables closes.closed one.core.given
 
--- Of two commands that a worker announced the one that it announced first stands first in the log, if
--- both stand there.
+-- Of two commands that a worker announced the one that it announced first stands first in the log,
+-- if both stand there.
 abbrev pub KeepsOwnOrder : List Ticket → Type 0
 KeepsOwnOrder log = (number first second place later : ℕ) → first < second →
     slice_get log place ≡ Some (ticket_of number first) →
@@ -64,8 +64,8 @@ RunsKeepOwnOrder = (settings : Configuration) (nobody : ℕ) (tables : List Tabl
     (workers : List Worker) (one : DoOneCoreRun settings nobody tables workers) →
     KeepsOwnOrder one.log.decided
 
--- What a worker announces while its connections are served has lower numbers than what it announces
--- while the same or others are served later.
+-- What a worker had announced before it served connections, by whichever of them, has lower numbers
+-- than what it announces after that.
 abbrev pub AnnouncesInServedOrder : Type 0
 AnnouncesInServedOrder = (until : Bool) (early late : Standing) (first second : ℕ) →
     Works until early late → first < length (announced_of early.worker) →

@@ -6,6 +6,7 @@ use Rattle.mc_model.specs.Legal.{IsLegal, count}
 use Rattle.mc_model.specs.Settings.{Configuration}
 use Rattle.mc_server.specs.Listeners.{CountsFrom}
 use Rattle.uc_log.specs.declared.log.Log.{Log}
+use Rattle.uc_worker.specs.AllWorkers.{AreOfLog}
 use Rattle.uc_worker.specs.Cited.{Sighting}
 use Rattle.uc_worker.specs.Going.{CatchesUp}
 use Rattle.uc_worker.specs.Worker.{IsUpToDate, announced_of, history_of, seat_of}
@@ -14,10 +15,6 @@ use Rattle.uc_worker.specs.declared.worker.Worker.{Worker}
 -- the worker has announced nothing, and replayed nothing
 abbrev pub HasDoneNothing : Worker → Type 0
 HasDoneNothing worker = (announced_of worker ≡ []) × (history_of worker ≡ [])
-
--- all workers are of the log
-abbrev pub AreOf : Log → List Worker → Type 0
-AreOf log workers = All (λ worker. worker.log.now ≡ log) workers
 
 -- a worker's number
 abbrev pub number_of : Worker → ℕ
@@ -31,7 +28,7 @@ tickets_of worker = map (λ (seen : Sighting). seen.ticket) (history_of worker)
 pub record AreWorkersOf (settings : Configuration) (log : Log)
     (workers : List Worker) : Type 0 where
   pub opened : log.settings ≡ settings
-  pub of : AreOf log workers
+  pub of : AreOfLog log workers
   pub many : length workers ≡ settings.workers
   pub numbers : CountsFrom 0 (map number_of workers)
 

@@ -1,6 +1,6 @@
 -- What the logs of a run of wfmc come to, one after another. Herlihy's universal construction
--- (Wait-Free Synchronization, TOPLAS 1991) has one log without an end; that it is cut into logs of a
--- fixed number of places is this project's profile.
+-- (Wait-Free Synchronization, TOPLAS 1991) has one log without an end; that it is cut into logs of
+-- a fixed number of places is this project's profile.
 use Rattle.std.specs.List.{AllZip}
 use Rattle.std.specs.Prelude.{◌≡◌, ◌⊎◌, ◌<◌, ⊤, ℕ, ◌+◌, Bool, false, List, [], All, MatchResult, Option, None, Result, Some, length, slice_get, vec_len}
 use Rattle.mc_connections.specs.Asking.{HaveBeenAsked}
@@ -55,11 +55,11 @@ OpensOver log tables pass result = MatchResult result
     × (openings_of worker ≡ tables))
     (λ fault. fault ≡ Memory)
 
--- A log is closed: its workers, later on, have replayed all its places and have one history. All that
--- they have announced meanwhile are no-ops, which fill the places that were left. So each command that
--- one of them has answered stands in it; one run of the log, from its opening, has all that they have
--- done; and these tables are the ones that the log was opened over, each after its tenant's own
--- commands of that whole log.
+-- A log is closed: its workers, later on, have replayed all its places and have one history. All
+-- that they have announced meanwhile are no-ops, which fill the places that were left. So each
+-- command that one of them has answered stands in it; one run of the log, from its opening, has all
+-- that they have done; and these tables are the ones that the log was opened over, each after its
+-- tenant's own commands of that whole log.
 pub record Closes (workers : List Worker) (tables : List TableState) : Type 0 where
   pub closed : List Worker
   pub later : AllZip FillsUp workers closed
@@ -84,8 +84,8 @@ pub data LogsWere (settings : Configuration) : ℕ → ℕ → List InTurn → L
       LogsWere settings (logs + 1) (places + settings.places)
       (each_followed_by who begun served) after
 
--- Workers served on one log in two parts: after its first part they filled places that were left, and
--- as no log could follow, they went on with it.
+-- Workers served on one log in two parts: after its first part they filled places that were left,
+-- and as no log could follow, they went on with it.
 pub record ServesInTwo (who : List InTurn) (begun served : List Worker)
     (all : List InTurn) : Type 0 where
   pub full : List Worker
@@ -152,7 +152,8 @@ pub record IsNextLog (settings : Configuration) (next : Next) : Type 0 where
 abbrev pub AreServedBy : List InTurn → Front → Type 0
 AreServedBy who front = AllZip HasBeenServedBy who front.event_loops.items
 
--- a worker has replayed all places of its log, and in its tables so many more changes can get uniques
+-- a worker has replayed all places of its log, and in its tables so many more changes can get
+-- uniques
 abbrev pub CanBeFollowed : ℕ → Worker → Type 0
 CanBeFollowed places worker = HasReplayedAll worker × HaveRoom (tables_of worker) places
 

@@ -28,8 +28,8 @@ alone output = both (record { events = []; left = None }) output
 abbrev pub IsReady : List Listening → Outflow → Outflow → Type 0
 IsReady listening before after = PushesAll (ready_text listening) before after
 
--- it was printed which listener is at which address, and then, when all had been served over at most
--- so many logs, how many places were used in total
+-- it was printed which listener is at which address, and then, when all had been served over at
+-- most so many logs, how many places were used in total
 abbrev pub IsServed : Configuration → ℕ → List Listening → Outflow → Outflow → Type 0
 IsServed settings most listening before after =
     (number : ℕ) × WereServed settings most number
@@ -72,8 +72,8 @@ pub record FailsToServe (asked : NetworkAsked)
   pub stops : StopsRun asked before after stop
   pub told : PushesOrFails (stop_line stop) errors_before errors
 
--- Each tenant had a listener, and administrators and metrics one if it was asked for, all connections
--- were served, and the listeners' lines and how many places were used were printed.
+-- Each tenant had a listener, and administrators and metrics one if it was asked for, all
+-- connections were served, and the listeners' lines and how many places were used were printed.
 pub record ServesTenants (asked : NetworkAsked) (before after : Outflow) : Type 0 where
   pub listening : List Listening
   pub is_told : AllZip IsListeningFor (listeners_asked asked) listening

@@ -101,8 +101,8 @@ given_by_words words = record {
   tenants = tenant_words words;
 }
 
--- how many workers serve: as many as are asked for, but where a log may follow another no more than a
--- log has places, so that each of them can take a command of each log
+-- how many workers serve: as many as are asked for, but where a log may follow another no more than
+-- a log has places, so that each of them can take a command of each log
 abbrev pub workers_for : NetworkGiven → ℕ
 workers_for given =
     if given.generations == 1 then given.workers else (min given.workers given.places)
@@ -110,8 +110,8 @@ workers_for given =
 -- what is to be served: how many workers there are, how many places a log has, how many logs there
 -- are at most, one after another (0: no end), how many bytes the commands of a log may keep where
 -- another may follow, how many places for connections each worker keeps for each tenant, after how
--- many connections of tenants it ends (0: never), at which address administrators connect and at which
--- one metrics are scraped, if at any, and the tenants by their numbers
+-- many connections of tenants it ends (0: never), at which address administrators connect and at
+-- which one metrics are scraped, if at any, and the tenants by their numbers
 pub record NetworkAsked : Type 0 where
   pub workers : ℕ
   pub places : ℕ
@@ -138,8 +138,8 @@ pub record IsOnlyAddress (text : Option Text) (address : Option SocketAddrV4) : 
 abbrev pub IsNoAddress : Option Text → Type 0
 IsNoAddress text = (address : Option SocketAddrV4) → ¬ (SpellsAddress text address)
 
--- What is given asks for this; no more workers are given than there may be, each tenant's word is of
--- the form, and the addresses of administrators and of metrics are such.
+-- What is given asks for this; no more workers are given than there may be, each tenant's word is
+-- of the form, and the addresses of administrators and of metrics are such.
 pub record Asks (given : NetworkGiven) (asked : NetworkAsked) : Type 0 where
   pub few : given.workers ≤ WORKERS
   pub workers : asked.workers ≡ workers_for given

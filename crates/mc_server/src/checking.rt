@@ -87,11 +87,11 @@ fn complaint_line(alloc: Global, complaint: Complaint<'_>) -> Result<String, All
     }
 }
 
-/// Checks whether what the words give can be served, and returns the program's exit status: 0 if so,
-/// and 2 with a complaint on `errors` if not. Nothing is listened on.
+/// Checks whether what the words give can be served, and returns the program's exit status: 0 if
+/// so, and 2 with a complaint on `errors` if not. Nothing is listened on.
 ///
-/// If memory runs out or the output fails, that is reported on `errors`, with status 1. A failure of
-/// `errors` is ignored.
+/// If memory runs out or the output fails, that is reported on `errors`, with status 1. A failure
+/// of `errors` is ignored.
 pub(crate) fn check_words<R: Wait, O: Output, E: Output>(
     rt: &R,
     alloc: Global,

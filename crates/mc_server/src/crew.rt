@@ -2,12 +2,13 @@
 ghost use Rattle.std.specs.List.{AllZip};
 ghost use Rattle.std.specs.Prelude.{◌≡◌, [], All, IfOk, IsOkUnless, MatchResult, Ok, length, map, slice_get, Some, ℕ};
 ghost use Rattle.mc_model.specs.declared.fault.Fault.TheVariants as faults;
-ghost use Rattle.mc_server.specs.Crew.{AreOf, HaveMet, IsCrew, MeetsAnother};
+ghost use Rattle.mc_server.specs.Crew.{HaveMet, IsCrew, MeetsAnother};
 ghost use Rattle.mc_server.specs.Logs.{AreOpenedOver, FitsOver, OpensOver, tables_over};
 ghost use Rattle.uc_worker.specs.Going.{CatchesUp};
 ghost use Rattle.uc_worker.specs.declared.worker.Worker.{Worker};
 ghost use Rattle.uc_worker.specs.Worker.{IsUpToDate, history_of, openings_of, seat_of};
 ghost use Rattle.uc_log.specs.Passes.{IsNew, IsUnusedPass, seat};
+ghost use Rattle.uc_worker.specs.AllWorkers.{AreOfLog};
 
 use mc_model::Fault;
 use std::alloc::Global;
@@ -24,8 +25,8 @@ struct Below<'a> {
 }
 
 impl<'a> Below<'a> {
-    /// Opens a worker with this pass of the log: over the tables of the base if there is one, and with
-    /// empty tables otherwise.
+    /// Opens a worker with this pass of the log: over the tables of the base if there is one, and
+    /// with empty tables otherwise.
     ///
     /// Returns `Memory` if memory runs out.
     fn open_worker(&self, alloc: Global, hashing: Hashing, pass: Pass) -> Result<Worker<'a>, Fault>
@@ -65,8 +66,8 @@ fn all_opened<'a>(
 }
 
 /// Returns a worker for each pass of the log, in the passes' order: over the tables of the base if
-/// there is one, and with empty tables otherwise. They are opened side by side, since each allocates
-/// its history and marks, in threads of their own where these can be made.
+/// there is one, and with empty tables otherwise. They are opened side by side, since each
+/// allocates its history and marks, in threads of their own where these can be made.
 ///
 /// Returns `Memory` if memory runs out.
 pub(crate) fn open_workers<'a, R: Threads + Sync>(
@@ -108,7 +109,7 @@ fn meet_others<'a>(
     one: &mut Worker<'a>,
     others: Vec<Worker<'a>>,
 ) -> Result<Vec<Worker<'a>>, Fault>
-    requires log { AreOf one.old.log.now others.items }
+    requires log { AreOfLog one.old.log.now others.items }
     requires whole { IsUpToDate one.old }
     ensures outcome { MatchResult result
         (λ met. AllZip (MeetsAnother one.old one.new) others.entry.items met.items × IsUpToDate one.new)

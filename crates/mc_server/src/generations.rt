@@ -1,4 +1,5 @@
-//! Serving logs one after another: a full log is closed, and the next one is opened over its tables.
+//! Serving logs one after another: a full log is closed, and the next one is opened over its
+//! tables.
 ghost use Rattle.std.specs.List.{AllZip};
 ghost use Rattle.std.specs.Prelude.{◌≡◌, ◌↔◌, ◌⊎◌, ◌<◌, ◌≤◌, ⊤, All, true, false, ℕ, IfErr, IfOk, IfSome, IsTrue, List, MatchResult, length, slice_get, Some};
 ghost use Rattle.mc_connections.specs.InTurn.{InTurn};
@@ -33,7 +34,8 @@ pub(crate) enum Served {
     Full(Next),
 }
 
-/// What a closed log leaves: itself, and the tables that it was opened over, unless they were empty.
+/// What a closed log leaves: itself, and the tables that it was opened over, unless they were
+/// empty.
 #[derive(Drop)]
 pub(crate) struct Closed {
     pub log: Log,
@@ -67,8 +69,8 @@ fn can_be_followed(workers: &[Worker<'_>], places: u64) -> bool
 
 /// Fills the places that are left in a log, closes it, and opens the one that follows it.
 ///
-/// Returns `None` if the changes of a whole log couldn't all get uniques, or memory runs out. Places
-/// may be filled in either case.
+/// Returns `None` if the changes of a whole log couldn't all get uniques, or memory runs out.
+/// Places may be filled in either case.
 fn next_log(alloc: Global, log: &Log, workers: &mut [Worker<'_>]) -> Option<Next>
     requires workers { AreWorkersOf log.now.settings log.now workers.old }
     requires some { 0 < length workers.old }
@@ -121,8 +123,8 @@ fn serve_part<'a, R: Threads + Wait + Sync, B: Begin<S>, S>(
 }
 
 /// Serves a log with these workers until every connection has ended, or until it is closed and the
-/// next one is opened, of which the watch is notified. Where none can follow, its workers go on to the end:
-/// commands after its last place are answered `SERVER_ERROR log full`.
+/// next one is opened, of which the watch is notified. Where none can follow, its workers go on to
+/// the end: commands after its last place are answered `SERVER_ERROR log full`.
 ///
 /// Returns the errors of `serve_part`.
 fn serve_log<'a, R: Threads + Wait + Clock + Sync, B: Begin<S>, S>(
@@ -254,8 +256,8 @@ fn serve_next<R: Threads + Wait + Clock + Sync>(
     Ok(served)
 }
 
-/// How many places earlier logs have in total at most before the last one begins, so that the number
-/// of all places that are used has 64 bits.
+/// How many places earlier logs have in total at most before the last one begins, so that the
+/// number of all places that are used has 64 bits.
 const MOST_PLACES: u64 = u64::MAX - 4_194_304;
 
 /// Returns whether the log of this number, counted from 1, is the last one of `most` logs (0: no
@@ -268,8 +270,8 @@ fn is_last_log(most: u64, number: u64, total: u64) -> bool
 }
 
 /// Serves logs one after another at a front at which nobody has been served yet, `most` at most (0:
-/// without an end), the first of which is this one. The watch is notified of the beginning and the end of
-/// each. Returns how many places were used in total.
+/// without an end), the first of which is this one. The watch is notified of the beginning and the
+/// end of each. Returns how many places were used in total.
 ///
 /// Returns the errors of `serve_log`.
 pub(crate) fn serve_logs<R: Threads + Wait + Clock + Sync, B: Begin<S>, S>(

@@ -1,5 +1,5 @@
-//! What follows of the logs that tenants were served on. A law is the contract of a function with an
-//! empty body, or with calls of the laws from which it follows.
+//! What follows of the logs that tenants were served on. A law is the contract of a function with
+//! an empty body, or with calls of the laws from which it follows.
 ghost use Rattle.mc_server.specs.CoreRuns.{AnnouncesInServedOrder, ClosedLogsAnswerOwn, ClosedLogsAreCoreRuns, LastLogsAreCoreRuns, RunsKeepOwnOrder};
 
 /// What the workers of a log have done, of all logs of a run of `wfmc` that ends, is one run of the
@@ -16,9 +16,10 @@ pub fn each_log_is_one_run_of_the_core()
     uc_worker::all_workers::all_workers_run_the_core();
 }
 
-/// A worker's commands stand in its log's run in the order in which it announced them, whichever
-/// connections they came by, and it announces them in the order in which it serves these. So what a
-/// client of two connections of one worker saw in order stands in that order.
+/// Of two commands of a worker that stand in its log's run, the one that it announced first stands
+/// first, whichever connections they came by: a worker's commands are numbered as it announces
+/// them. What it announced before it served connections has lower numbers than what it announces
+/// after that.
 pub fn commands_of_a_worker_keep_their_order()
     ensures run { RunsKeepOwnOrder }
     ensures served { AnnouncesInServedOrder }

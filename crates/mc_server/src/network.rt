@@ -88,8 +88,8 @@ fn serve_and_stop<R: Threads + Wait + Clock + Sync, B: Begin<S>, S>(
     outcome
 }
 
-/// Does as `serve_all`, with the loop of the listener for metrics in a thread of its own, if there is
-/// one and a thread can be made.
+/// Does as `serve_all`, with the loop of the listener for metrics in a thread of its own, if there
+/// is one and a thread can be made.
 fn serve_scraped<R, B: Begin<S>, S>(
     rt: &R,
     alloc: Global,
@@ -133,12 +133,13 @@ where
 }
 
 /// Serves the tenants and administrators at their listeners until all connections are served, and
-/// meanwhile whoever scrapes the metrics, if there is a listener for them. Once every worker's loop has
-/// begun it prints which listener is at which address, and at the end how many places of all logs were
-/// used.
+/// meanwhile whoever scrapes the metrics, if there is a listener for them. Once every worker's loop
+/// has begun it prints which listener is at which address, and at the end how many places of all
+/// logs were used.
 ///
 /// Returns `Memory` if memory runs out or a worker's loop doesn't begin, `Input` if waiting for
-/// connections fails or the listener for metrics can't be registered, and `Output` if the output fails.
+/// connections fails or the listener for metrics can't be registered, and `Output` if the output
+/// fails.
 fn serve_tenants<R, O: Output>(
     rt: &R,
     alloc: Global,
@@ -192,8 +193,8 @@ where
     tell_done(rt, number, output)
 }
 
-/// Binds a listener for each tenant, and one for administrators and one for metrics if these are asked
-/// for, and serves them all. Nothing is printed before all are bound.
+/// Binds a listener for each tenant, and one for administrators and one for metrics if these are
+/// asked for, and serves them all. Nothing is printed before all are bound.
 ///
 /// Returns the errors of `wanted_by`, `bind_all`, `bind_metrics` and `serve_tenants`.
 fn run_service<'a, R, O: Output>(
@@ -233,18 +234,18 @@ fn tell_stop<R: Wait, E: Output>(rt: &R, stop: Stop, errors: &mut E)
 /// Does what the words after the program's name ask for, and returns the program's exit status.
 ///
 /// Serves the tenants that the words name, each at a listener of its own, and administrators at the
-/// address of `--admin` and whoever scrapes metrics by HTTP at that of `--metrics`, if these are given.
-/// Prints `listening NAME ADDR` for each tenant, in their
-/// order and with the port that its listener has, then `listening admin ADDR` for administrators and
-/// `listening metrics ADDR` for those who scrape metrics, and then `ready`, all of it once every worker's loop has begun. With `--connections N` above 0 it
-/// ends once N connections of tenants were accepted and every connection has ended: then the workers
-/// meet, `done L` is printed, where L is how many places of all logs were used, and the status is 0. Otherwise it
-/// doesn't end.
+/// address of `--admin` and whoever scrapes metrics by HTTP at that of `--metrics`, if these are
+/// given. Prints `listening NAME ADDR` for each tenant, in their order and with the port that its
+/// listener has, then `listening admin ADDR` for administrators and `listening metrics ADDR` for
+/// those who scrape metrics, and then `ready`, all of it once every worker's loop has begun. With
+/// `--connections N` above 0 it ends once N connections of tenants were accepted and every
+/// connection has ended: then the workers meet, `done L` is printed, where L is how many places of
+/// all logs were used, and the status is 0. Otherwise it doesn't end.
 ///
 /// A tenant's word or an address of another form, a number out of its range, or a name that is used
-/// twice, `admin` among them if there are administrators and `metrics` if metrics are scraped, is reported on `errors` as
-/// `wfmc: bad settings`, with status 2, and an address that can't be listened on as
-/// `wfmc: cannot listen NAME`, with status 1; nothing is printed then. If memory
+/// twice, `admin` among them if there are administrators and `metrics` if metrics are scraped, is
+/// reported on `errors` as `wfmc: bad settings`, with status 2, and an address that can't be
+/// listened on as `wfmc: cannot listen NAME`, with status 1; nothing is printed then. If memory
 /// runs out, a worker's loop doesn't begin within about ten seconds, waiting for connections fails,
 /// or the output fails, that is reported as `wfmc: TEXT`, with status 1.
 ///

@@ -18,7 +18,8 @@ pub(crate) const ADMIN: &str = "admin";
 /// The name of the listener for metrics.
 pub(crate) const METRICS: &str = "metrics";
 
-/// The name of a listener, of a tenant, administrators or metrics, and the address on which it listens.
+/// The name of a listener, of a tenant, administrators or metrics, and the address on which it
+/// listens.
 #[derive(Clone, Copy, Debug)]
 pub(crate) struct Listening<'a> {
     pub name: &'a str,
@@ -95,8 +96,8 @@ pub(crate) fn tell_done<R: Wait, O: Output>(
     push_line(rt, b"done ", buffer.format(places).as_bytes(), output)
 }
 
-/// Reports that a listener's address can't be listened on. A failure of `errors` is ignored. Needs no
-/// memory.
+/// Reports that a listener's address can't be listened on. A failure of `errors` is ignored. Needs
+/// no memory.
 pub(crate) fn tell_cannot_listen<R: Wait, E: Output>(rt: &R, name: &str, errors: &mut E)
     ensures { PushesOrFails (cannot_listen_line name.now) (E.tells errors.old)
         (E.tells errors.new) }

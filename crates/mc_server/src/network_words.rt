@@ -80,9 +80,9 @@ pub(crate) struct NetworkWords<'a> {
 }
 
 /// What wfmc is to serve: settings, how many logs there are, how many bytes a log keeps, how many
-/// places each worker keeps for each tenant, after how many connections of tenants it ends (0: never),
-/// at which address administrators connect and at which one metrics are scraped, if at any, and the
-/// tenants by their numbers.
+/// places each worker keeps for each tenant, after how many connections of tenants it ends (0:
+/// never), at which address administrators connect and at which one metrics are scraped, if at any,
+/// and the tenants by their numbers.
 #[derive(Debug, Drop)]
 pub(crate) struct Service<'a> {
     pub settings: Settings,
@@ -282,8 +282,8 @@ fn is_name_free(address: Option<SocketAddrV4>, tenants: &[Tenant], name: &str) -
     }
 }
 
-/// Returns whether no name is used twice: with administrators none of the tenants is `admin`, and with
-/// metrics none is `metrics`.
+/// Returns whether no name is used twice: with administrators none of the tenants is `admin`, and
+/// with metrics none is `metrics`.
 fn are_names_free(
     admin: Option<SocketAddrV4>,
     metrics: Option<SocketAddrV4>,
@@ -343,8 +343,8 @@ fn workers_for(words: &NetworkWords) -> u64
 
 /// Returns what the words ask to be served.
 ///
-/// Returns `BadSettings` if that can't be served: a tenant's word or an address is of another form, a
-/// number is out of its bounds, or a name is used twice. Returns `Memory` if memory runs out.
+/// Returns `BadSettings` if that can't be served: a tenant's word or an address is of another form,
+/// a number is out of its bounds, or a name is used twice. Returns `Memory` if memory runs out.
 pub(crate) fn service_of<'a>(alloc: Global, words: &NetworkWords<'a>) -> Result<Service<'a>, Fault>
     ensures outcome { MatchResult result
         (λ service. Asks (given_in words.now) (served_by service) × IsChecked service)

@@ -61,8 +61,8 @@ impl LogWatch {
     }
 }
 
-/// Returns by what the server shows its numbers: with publishers for its workers and a scraper if there
-/// is a listener for metrics.
+/// Returns by what the server shows its numbers: with publishers for its workers and a scraper if
+/// there is a listener for metrics.
 ///
 /// Returns `Memory` if memory runs out, and `Input` if a poll can't be made, the listener can't be
 /// registered or there are no random numbers.

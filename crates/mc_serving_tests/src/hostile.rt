@@ -172,8 +172,8 @@ fn ends_at_pull(rt: &(impl Wait + AllocGlobal), good: usize) -> Result<bool, All
     Ok(true)
 }
 
-/// Returns whether a push that fails after `good` single bytes ends each service, with as many bytes
-/// of what is owed.
+/// Returns whether a push that fails after `good` single bytes ends each service, with as many
+/// bytes of what is owed.
 fn ends_at_push(rt: &(impl Wait + AllocGlobal), good: usize) -> Result<bool, AllocError> {
     let mut pushes = vec![in rt.alloc(); OutputStep::Take(1); good]?;
     pushes.push(OutputStep::Fail)?;

@@ -1,4 +1,6 @@
--- How a command changes what a key holds.
+-- How a command changes what a key holds, after memcached's doc/protocol.txt, "Storage commands":
+-- append adds data after existing data and prepend before, and both "ignore new flag and exptime
+-- settings". Uniques that count up, and quotas, are this project's profile.
 use Rattle.std.specs.Prelude.{ℕ, ◌+◌, Bool, if◌then◌else◌, ◌++◌, List, [], Option, Some, None}
 use Rattle.std.specs.FinMap as map
 use Rattle.mc_model.specs.declared.item.Item.{Item}

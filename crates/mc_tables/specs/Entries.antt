@@ -1,4 +1,5 @@
--- The entries of a hash map, laid over a table.
+-- The entries of a hash map, laid over a table: how this project keeps a table in memory, its
+-- profile.
 use Rattle.std.specs.Prelude.{ℕ, Bool, false, not, List, [], ◌∷◌, nat_eq, position, Option, Some, None}
 use Rattle.std.specs.Borrow.{Bor}
 use Rattle.std.specs.Cmp.Lexicographic.{pointwise}

@@ -1,4 +1,5 @@
--- What a look-up tells of an item.
+-- What a look-up tells of an item: the flags, the number of bytes and the unique that memcached's
+-- doc/protocol.txt, "Retrieval command", has in the line of an item.
 use Rattle.std.specs.Prelude.{length}
 use Rattle.mc_model.specs.declared.item.Item.{Item}
 use Rattle.mc_tables.specs.declared.storage.Found.{Found}

@@ -1,4 +1,5 @@
--- Tables in layers: a base, marks on what of it was removed, and what was changed since.
+-- Tables in layers: a base, marks on what of it was removed, and what was changed since. So this
+-- project keeps a table in memory, its profile.
 use Rattle.std.specs.Prelude.{ℕ, ◌*◌, ◌≤◌, List, [], ◌++◌, length, Option, Some, None}
 use Rattle.std.specs.Arc.{arc_value}
 use Rattle.std.specs.Borrow.{Bor}

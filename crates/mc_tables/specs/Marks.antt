@@ -1,4 +1,5 @@
--- Marks on places, in words of 64 bits.
+-- Marks on places, in words of 64 bits, by which a table in layers tells what was removed below;
+-- this project's profile.
 use Rattle.std.specs.Prelude.{ℕ, ◌/◌, ◌%◌, Bool, List, get_or, nat_eq}
 use Rattle.std.specs.Int.{bit_at}
 

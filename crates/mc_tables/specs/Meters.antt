@@ -1,4 +1,5 @@
--- What a table counts for in total.
+-- What a table counts for in total, to be compared with the tenant's quotas; this project's
+-- profile.
 use Rattle.std.specs.Prelude.{◌≡◌, Option, IfNone, IfSome}
 use Rattle.std.specs.Option.{is_some}
 use Rattle.mc_model.specs.declared.settings.Limits.{Limits}
@@ -16,8 +17,8 @@ IsMeterIf meter limits table =
     (is_some meter ≡ is_within limits table)
     × IfSome meter (λ after. (after.limits ≡ limits) × IsMeterOf after table)
 
--- the totals of the table that an effect leaves, with the quotas, if the effect is a change; if not,
--- it leaves the table as it was
+-- the totals of the table that an effect leaves, with the quotas, if the effect is a change; if
+-- not, it leaves the table as it was
 abbrev pub IsMeterBy : Option Meter → Limits → Table → Effect → Type 0
 IsMeterBy meter limits table effect =
     (is_some meter ≡ is_acceptance effect.reply)

@@ -1,4 +1,4 @@
--- What is seen of a table that borrows.
+-- The item that is seen in a table that borrows, whichever layer holds it; this project's profile.
 use Rattle.mc_model.specs.declared.item.Item.{Item}
 use Rattle.mc_tables.specs.declared.view.View.{View}
 use Rattle.mc_tables.specs.declared.view.View.TheVariants.{Below, Over}

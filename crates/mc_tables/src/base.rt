@@ -35,8 +35,8 @@ impl Base {
         Ok(Base { items, marks })
     }
 
-    /// Returns the same base, which shares the items. Returns `Memory` if the allocation of the marks
-    /// fails.
+    /// Returns the same base, which shares the items. Returns `Memory` if the allocation of the
+    /// marks fails.
     pub(crate) fn shared(&self, alloc: Global) -> Result<Base, Fault>
         ensures items { IfOk result (λ base. arc_value base.items ≡ arc_value self.now.items) }
         ensures marks { IfOk result (λ base. base.marks.items ≡ self.now.marks.items) }

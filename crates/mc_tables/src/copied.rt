@@ -200,7 +200,8 @@ fn share(alloc: Global, base: &Option<Base>) -> Result<Option<Base>, Fault>
     }
 }
 
-/// Returns whether so much of a base was removed, replaced or put over it that it isn't to be shared.
+/// Returns whether so much of a base was removed, replaced or put over it that it isn't to be
+/// shared.
 fn is_worn(base: &Base, changes: &ItemMap) -> bool {
     changes.len().saturating_add(base.removed()) > base.len() / SHARED_PARTS
 }

@@ -176,8 +176,8 @@ impl<'a> Layered<'a> {
         }
     }
 
-    /// Puts an item under a key, over what it held. Returns `Memory` if an allocation fails; nothing
-    /// changes then.
+    /// Puts an item under a key, over what it held. Returns `Memory` if an allocation fails;
+    /// nothing changes then.
     fn put(&mut self, key: &'a Key, kept: CellItem<'a>) -> Result<(), Fault>
         ensures put { OnOk result (layers self.new.base self.new.marks.items self.new.over
             ≡ map.insert (layers self.old.base self.old.marks.items self.old.over) key.now
@@ -522,8 +522,8 @@ fn show_kept<'a>(
     })
 }
 
-/// Returns what a retrieval shows of an item of the base, whose data it borrows. Returns `Memory` if
-/// the allocation for the key fails.
+/// Returns what a retrieval shows of an item of the base, whose data it borrows. Returns `Memory`
+/// if the allocation for the key fails.
 fn show_item<'a>(key: &Key, item: &'a Item, uniques: bool) -> Result<Value<'a>, Fault>
     ensures shown { IfOk result (λ shown. shown ≡ shown_item uniques key.now item.now) }
     ensures memory { IsOkUnless result Fault.Memory }

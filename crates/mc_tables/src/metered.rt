@@ -27,8 +27,9 @@ use mc_model::{
 use std::alloc::Global;
 use std::marker::Model;
 
-/// A tenant's table over a storage of its items, with the totals that the quotas are for. What would
-/// take it above the tenant's quotas is refused; it is above them only after they were lowered.
+/// A tenant's table over a storage of its items, with the totals that the quotas are for. What
+/// would take it above the tenant's quotas is refused; it is above them only after they were
+/// lowered.
 #[derive(Debug, Drop)]
 pub struct Metered<S: Storage> {
     pub(crate) alloc: Global,

@@ -6,9 +6,9 @@ ghost use Rattle.mc_tables.specs.Hashing.{with_tail};
 use std::hash::Hasher;
 use std::marker::Model;
 
-/// SipHash-1-3 by Aumasson and Bernstein, as `DefaultHasher` of std computes it. std feeds the bytes
-/// of a key one by one: each is moved into a word by a shift, where `DefaultHasher` calls its `write`
-/// for a slice of one byte. Bytes that come together are taken in as words.
+/// SipHash-1-3 by Aumasson and Bernstein, as `DefaultHasher` of std computes it. A key feeds all
+/// its bytes by one `write`, which takes them in as words of eight bytes where no part of a word is
+/// awaited. Each of the other bytes is moved into a word by a shift.
 #[derive(Drop)]
 pub struct SipHasher {
     v0: u64,

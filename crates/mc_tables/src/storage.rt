@@ -1,5 +1,5 @@
-//! What keeps a table's items: look-ups, removals, and the four ways in which a command changes what
-//! a key holds.
+//! What keeps a table's items: look-ups, removals, and the four ways in which a command changes
+//! what a key holds.
 ghost use Rattle.std.specs.FinMap as map;
 ghost use Rattle.std.specs.Option.{is_some, option_map};
 ghost use Rattle.std.specs.Prelude.{◌≡◌, ◌≤◌, true, false, length, IfOk, OnOk, OnErr, IsOkUnless, if◌then◌else◌};

@@ -1,6 +1,6 @@
 //! Has workers of a log submit, meet, or go on to the next log, as the first word says, and prints
-//! what they answer. It is there for its allocations: `tests/allocation_failures.py` refuses each of
-//! them in turn, and knows what may be printed then. Without a word each of the three is done.
+//! what they answer. It is there for its allocations: `tests/allocation_failures.py` refuses each
+//! of them in turn, and knows what may be printed then. Without a word each of the three is done.
 #![tactic(auto)]
 
 mod clients;

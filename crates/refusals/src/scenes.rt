@@ -161,7 +161,8 @@ fn is_ready(worker: &Worker<'_>, places: u64) -> bool
     worker.is_done() && worker.has_room(places)
 }
 
-/// Turns the log of its only worker over. Returns `LogFull` if the worker hasn't replayed all of it.
+/// Turns the log of its only worker over. Returns `LogFull` if the worker hasn't replayed all of
+/// it.
 fn followed(alloc: Global, client: &Client<'_>) -> Result<Following, Fault> {
     let settings = client.log.settings();
     if settings.workers() != 1 || !is_ready(&client.worker, settings.places()) {

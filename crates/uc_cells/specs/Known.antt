@@ -1,4 +1,5 @@
 -- What a sighting knows: the row, the cell in it that is its ticket's, and the value of that cell.
+-- Cells in rows are this project's profile.
 use Rattle.std.specs.Prelude.{◌≡◌, ℕ, List, Option, Some, slice_get}
 use Rattle.mc_model.specs.declared.id.Ticket.{Ticket}
 use Rattle.mc_model.specs.declared.request.Entry.{Entry}

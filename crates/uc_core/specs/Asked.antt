@@ -1,6 +1,8 @@
 -- What the settings and the events of a run say of the core that it leads to, by the list of events
 -- alone: how large the core is, what was announced under each ticket, how much each worker has
--- replayed, and how often it has proposed.
+-- replayed, and how often it has proposed. Announcing and proposing are those of Herlihy's
+-- universal construction (Wait-Free Synchronization, TOPLAS 1991); tenants, replays and the counts
+-- are this project's profile.
 use Rattle.std.specs.Prelude.{◌≡◌, ℕ, ◌+◌, ◌≤◌, ◌==◌, Bool, false, if◌then◌else◌, List, length, Option, Some, None, slice_get}
 use Rattle.std.specs.List.{count_by, filter_map, fold}
 use Rattle.mc_model.specs.declared.command.Command.{Command}

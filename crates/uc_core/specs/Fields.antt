@@ -1,4 +1,5 @@
--- What the fields of the core show of its state, and what is true of them at all times.
+-- What the fields of the core show of its state, and what is true of them at all times: the law of
+-- this project's own data structure.
 use Rattle.std.specs.Prelude.{◌≡◌, ℕ, ◌≤◌, length, map, Some, slice_get, vec_capacity}
 use Rattle.std.specs.Global.{Vec}
 use Rattle.mc_model.specs.declared.id.TheConstants.{TENANTS, WORKERS}

@@ -1,4 +1,5 @@
--- What the core keeps of a worker: what is shown of it, and what is true of it at all times.
+-- What the core keeps of a worker: what is shown of it, and what is true of it at all times: the
+-- law of this project's own data structure.
 use Rattle.std.specs.Prelude.{◌≡◌, ◌==◌, ◌&&◌, Bool, ℕ, ◌+◌, ◌<◌, ◌≤◌, List, [], length, take, Some, slice_get}
 use Rattle.std.specs.Global.{Vec}
 use Rattle.mc_model.specs.declared.id.Ticket.{Ticket}

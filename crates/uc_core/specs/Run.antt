@@ -1,4 +1,6 @@
--- Runs of the core: any finite list of events, of any workers in any order.
+-- Runs of the core: any finite list of events, of any workers in any order. The log is Herlihy's
+-- universal construction (Wait-Free Synchronization, TOPLAS 1991); replies, their places and faults
+-- are this project's profile.
 use Rattle.std.specs.Prelude.{◌≡◌, ℕ, List, [], ◌∷◌, ◌++◌, length, Option, Some, true, Result, Ok, Err, slice_get}
 use Rattle.std.specs.Option.{option_map, option_map_or, option_to_list, unwrap_or}
 use Rattle.mc_model.specs.declared.fault.Fault.{Fault}

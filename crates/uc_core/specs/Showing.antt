@@ -1,4 +1,4 @@
--- What the core shows of a worker.
+-- What the core shows of a worker: its progress and its tables; this project's profile.
 use Rattle.std.specs.Prelude.{ℕ, length, Option, slice_get}
 use Rattle.std.specs.Option.{option_and_then, option_map}
 use Rattle.mc_model.specs.declared.shown.WorkerState.{WorkerState}

@@ -227,8 +227,8 @@ impl Worker {
     }
 }
 
-/// Returns the same reply, which borrows nothing. Returns `Memory` if an allocation fails, which only
-/// the items of a retrieval need: so no table has changed then.
+/// Returns the same reply, which borrows nothing. Returns `Memory` if an allocation fails, which
+/// only the items of a retrieval need: so no table has changed then.
 fn owned(alloc: Global, reply: Option<Reply<'_>>) -> Result<Option<Reply<'static>>, Fault>
     ensures same { IfOk result (λ owned. owned ≡ reply.entry) }
     ensures items { IfErr result

@@ -1,6 +1,7 @@
 -- The headline for a log that is opened over tables: the clauses that speak of tables, each with
 -- the table with which a tenant began in place of an empty one. The other clauses are the
--- headline's own.
+-- headline's own. Herlihy's universal construction (Wait-Free Synchronization, TOPLAS 1991) has one
+-- log without an end; that a log is opened over tables is this project's profile.
 use Rattle.std.specs.Prelude.{◌≡◌, ℕ, ◌+◌, ◌≤◌, List, length, take, Some, slice_get}
 use Rattle.mc_model.specs.declared.reply.Reply.{Reply}
 use Rattle.mc_model.specs.declared.request.Entry.{Entry}

@@ -1,4 +1,5 @@
--- What contracts say of passes.
+-- What contracts say of passes. The log is that of Herlihy's universal construction (Wait-Free
+-- Synchronization, TOPLAS 1991); passes and cells are this project's profile.
 use Rattle.std.specs.Prelude.{◌≡◌, ℕ, List, [], None, Some, slice_get}
 use Rattle.mc_model.specs.declared.command.Command.{Command}
 use Rattle.mc_model.specs.declared.id.Ticket.{Ticket}

@@ -57,8 +57,8 @@ impl Log {
     /// Announces a no-op: leaves the cell of the worker's next ticket empty for good, and announces
     /// that ticket. Its entry belongs to nobody.
     ///
-    /// Returns `Memory` if memory runs out, and `Taken` if the cell holds an entry. Either way nothing
-    /// is announced.
+    /// Returns `Memory` if memory runs out, and `Taken` if the cell holds an entry. Either way
+    /// nothing is announced.
     pub fn announce_no_op(&self, alloc: Global, pass: &mut Pass) -> Result<(), Fault>
         requires of { IsOf self.now pass.old }
         requires idle { (state pass.old).phase ≡ phase.Idle }
@@ -182,12 +182,12 @@ impl Log {
         pass.desk.witness(&self.places);
     }
 
-    /// Keeps the run of the log up to now in the first worker's seat, and shares what that worker has
-    /// learned with the other.
+    /// Keeps the run of the log up to now in the first worker's seat, and shares what that worker
+    /// has learned with the other.
     pub fn witness_with(&self, one: &mut Pass, other: &mut Pass)
         requires { IsOf self.now one.old × IsOf self.now other.old }
-        // The run goes on from the one that the first seat kept. It has all calls of both seats, and
-        // no other events of their workers.
+        // The run goes on from the one that the first seat kept. It has all calls of both seats,
+        // and no other events of their workers.
         ensures run { WitnessWith (desk one.old) (desk other.old) (desk one.new) (desk other.new) }
         ensures kept { Keeps self.now one.old one.new × Keeps self.now other.old other.new }
     {

@@ -94,9 +94,9 @@ abbrev pub ShareOneRun : Desk → Desk → Type 0
 ShareOneRun one other = (log : ShownState)
     × AreOneRun (desk_size one) (part_of (known one) ∷ part_of (known other) ∷ []) log
 
--- The seat keeps the run of the log up to now, and nothing else of it changes. That run goes on from
--- the one that it kept before, and has all calls of these workers' seats and no other events of
--- theirs.
+-- The seat keeps the run of the log up to now, and nothing else of it changes. That run goes on
+-- from the one that it kept before, and has all calls of these workers' seats and no other events
+-- of theirs.
 pub record Witnesses (old new : Desk) (parts : List Part) : Type 0 where
   pub seat : (new.seat.table_id ≡ old.seat.table_id)
       × (known new ≡ keeping (known old) (known new).witnessed)

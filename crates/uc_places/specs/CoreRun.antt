@@ -1,5 +1,7 @@
 -- A run of the log as a run of the core, the machine of the headline: the same events, of which an
 -- announcement also names its tenant and its command, and replays, of which the log shows nothing.
+-- The log is that of Herlihy's universal construction (Wait-Free Synchronization, TOPLAS 1991);
+-- tenants, and tables to begin with, are this project's profile.
 use Rattle.std.specs.Prelude.{◌≡◌, ◌≢◌, ℕ, ◌<◌, ◌≤◌, List, length, replicate, Option, Some, None, filter_map}
 use Rattle.mc_model.specs.declared.command.Command.{Command}
 use Rattle.mc_model.specs.declared.id.Ticket.{Ticket}

@@ -1,4 +1,4 @@
--- What a seat knows, as numbers.
+-- What a seat knows, as the numbers that code keeps, and what words encode; this project's profile.
 use Rattle.std.specs.Prelude.{◌≡◌, ◌≢◌, ℕ, ◌+◌, ◌-◌, ◌<◌, ◌≤◌, Bool, List, length, slice_get, slice_index, slice_set, ltb, if◌then◌else◌, Some}
 use Rattle.mc_model.specs.declared.id.TheConstants.{WORKERS}
 use Rattle.mc_model.specs.declared.id.Ticket.{Ticket}

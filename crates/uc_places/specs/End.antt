@@ -1,4 +1,6 @@
--- What the words are when they are closed.
+-- What the words are when they are closed: the log that a run led to. Herlihy's universal
+-- construction (Wait-Free Synchronization, TOPLAS 1991) has one log without an end; that a log
+-- is closed is this project's profile.
 use Rattle.std.specs.Prelude.{◌≡◌, ℕ, List, [], map, slice_get, Option, Some, None}
 use Rattle.atomic_table.specs.declared.shared.Seat.{Seat as TableSeat}
 use Rattle.mc_model.specs.declared.id.Ticket.{Ticket}

@@ -1,4 +1,5 @@
--- The calls of a seat, one after another, as the events of one run.
+-- The calls of a seat, one after another, as the events of one run: the subhistory of one process
+-- in a history (Herlihy and Wing, Linearizability, TOPLAS 1990).
 use Rattle.std.specs.Prelude.{◌≡◌, ℕ, ◌<◌, List, [], ◌∷◌, map, slice_get, Some}
 use Rattle.mc_model.specs.declared.shown.LogSize.{LogSize}
 use Rattle.mc_model.specs.declared.shown.ShownState.{ShownState}
@@ -48,9 +49,9 @@ abbrev pub AreOfAll : LogSize → List Part → Type 0
 AreOfAll size parts = (number : ℕ) → number < size.workers →
     (place : ℕ) × (part : Part) × (slice_get parts place ≡ Some part) × (part.worker ≡ number)
 
--- A run that goes on from one in which a worker has made exactly these calls, and from which one goes
--- on in which it has made no others, has exactly these calls of it too, and leads to a state in which
--- the worker is as it is at the end of the last.
+-- A run that goes on from one in which a worker has made exactly these calls, and from which one
+-- goes on in which it has made no others, has exactly these calls of it too, and leads to a state
+-- in which the worker is as it is at the end of the last.
 abbrev pub RunsBetween : Type 0
 RunsBetween = (size : LogSize) (number : ℕ) (calls : List Call) (state : WorkerState)
     (early here late : List ShownEvent) (log end : ShownState) →

@@ -1,4 +1,5 @@
--- What a seat's last state is to the log.
+-- What a seat's last state is to the log: a reachable one, in the sense of `Lawful`. That a seat
+-- keeps it, as a ghost value, is this project's own.
 use Rattle.std.specs.Prelude.{◌≡◌, ℕ, Some, slice_get}
 use Rattle.mc_model.specs.declared.id.Ticket.{Ticket}
 use Rattle.mc_model.specs.Lawful.{IsReached, IsWorker}

@@ -10,6 +10,8 @@
 --   The run begins with the events that a seat has witnessed.
 -- So a call can only be one event of its own worker, from a reachable state, and only events of
 -- other workers lie between two calls of a seat; and the calls of all seats are one run.
+-- The log is that of Herlihy's universal construction (Wait-Free Synchronization, TOPLAS 1991);
+-- words, seats and this invariant are this project's own.
 use Rattle.std.specs.Prelude.{◌≡◌, ◌≢◌, ℕ, ◌<◌, ◌≤◌, List, [], ◌∷◌}
 use mathlib.Core.Option.{some}
 use lib.ListN.{get_elem?}

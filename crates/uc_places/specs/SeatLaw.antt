@@ -1,6 +1,8 @@
 -- What a seat knows of its own worker whatever the others do: the part of the invariant of
 -- reachable states (`WorkerLaw` and `LogLaw` of the shown log) that speaks of this worker and its
--- list alone.
+-- list alone. In Herlihy's universal construction (Wait-Free Synchronization, TOPLAS 1991) each
+-- process threads its commands onto the list one after another; that this list has an end is this
+-- project's profile.
 use Rattle.std.specs.Prelude.{◌≡◌, ℕ, ◌+◌, ◌<◌, ◌≤◌, length, slice_get, Some}
 use Rattle.mc_model.specs.declared.id.Ticket.{Ticket}
 use Rattle.mc_model.specs.declared.shown.LogSize.{LogSize}

@@ -1,4 +1,4 @@
--- A seat that is idle or pending.
+-- A seat that is idle or pending; this project's profile.
 use Rattle.std.specs.Prelude.{Bool, true, false}
 use Rattle.uc_places.specs.declared.desk.Desk.{Desk}
 use Rattle.uc_places.specs.declared.seats.Seat.{Seat}

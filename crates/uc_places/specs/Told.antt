@@ -1,4 +1,6 @@
--- What each operation on a word shows to the seat that does it.
+-- What each operation on a word shows to the seat that does it. Announcing, reading, looking and
+-- proposing are those of Herlihy's universal construction (Wait-Free Synchronization, TOPLAS 1991);
+-- seats, and the lists and runs that they keep, are this project's own.
 use Rattle.std.specs.Prelude.{◌≡◌, ◌≢◌, ℕ, ◌+◌, ◌<◌, ◌≤◌, List, [], ◌∷◌, ◌++◌, drop, length, slice_get, Some}
 use Rattle.std.specs.Option.{option_map_or, unwrap_or}
 use Rattle.atomic_table.specs.Table.{Me}
@@ -115,17 +117,17 @@ MeetTells at old found new = (new ≡ old)
 abbrev pub keeping : View → List Witnessed → View
 keeping view events = record view { witnessed = events }
 
--- A load of word 0 by which a seat witnesses the run of the log: it keeps all its events so far, and
--- nothing else of it changes. That run goes on from the one that the seat kept before, and has all
--- calls of the workers whose seat it is.
+-- A load of word 0 by which a seat witnesses the run of the log: it keeps all its events so far,
+-- and nothing else of it changes. That run goes on from the one that the seat kept before, and has
+-- all calls of the workers whose seat it is.
 abbrev pub WitnessTells : TableStep → SeatState → ℕ → SeatState → Type 0
 WitnessTells at old found new = (new ≡ (keeping old.0 new.0.witnessed, old.1))
     × BeginsWith (witnessed_by new.0) (witnessed_by old.0)
     × ((log : ShownState) × (one : AreOneRun old.0.size (all_parts old.0) log)
     × (one.run ≡ witnessed_by new.0))
 
--- a seat with which a list is shared, which keeps no run any more; and a seat that knows nothing any
--- more
+-- a seat with which a list is shared, which keeps no run any more; and a seat that knows nothing
+-- any more
 abbrev pub told_list : View → List Ticket → View
 told_list view list = record view { told = list; witnessed = [] }
 

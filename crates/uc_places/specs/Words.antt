@@ -1,6 +1,8 @@
 -- The words that the threads share. Word 0 is the number of workers n and never changes; words 1 to
 -- n are how many commands each worker has announced; word n + 1 + p is that of place p: 0 while the
--- place is empty, and then the word of its ticket.
+-- place is empty, and then the word of its ticket. Words 1 to n stand for the announce array, and
+-- those of places for the consensus objects, of Herlihy's universal construction (Wait-Free
+-- Synchronization, TOPLAS 1991); their form is this project's profile.
 use Rattle.std.specs.Prelude.{◌≡◌, ℕ, zero, suc, ◌+◌, ◌-◌, ◌*◌, ◌/◌, ◌%◌, ◌<◌, List, length, slice_get, slice_index, Option, Some, None}
 use Rattle.mc_model.specs.declared.id.Ticket.{Ticket}
 use Rattle.mc_model.specs.declared.shown.LogSize.{LogSize}

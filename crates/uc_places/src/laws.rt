@@ -27,14 +27,15 @@ pub fn all_calls_are_the_run()
     ensures { EachEventIsACall }
 {}
 
-/// If a worker has taken no event between two moments of a run, each moment between them has exactly
-/// the calls that it had made, and shows the worker as it was.
+/// If a worker has taken no event between two moments of a run, each moment between them has
+/// exactly the calls that it had made, and shows the worker as it was.
 pub fn a_worker_stays_between_two_moments()
     ensures { RunsBetween }
 {}
 
-/// Any run of the log is a run of the core, the machine of the headline, whatever was announced under
-/// its tickets by known tenants, and however much of what it has learned each worker has replayed.
+/// Any run of the log is a run of the core, the machine of the headline, whatever was announced
+/// under its tickets by known tenants, and however much of what it has learned each worker has
+/// replayed.
 pub fn a_run_of_the_log_is_one_of_the_core()
     ensures { RunsAsCore }
 {}

@@ -15,8 +15,8 @@ impl Desk {
         places.table.shared.load::<Witnessing>(&mut self.seat, 0);
     }
 
-    /// Keeps the run of the log up to now together with another's desk, by four loads of word 0: the
-    /// other's seat is joined into this one, and split off again.
+    /// Keeps the run of the log up to now together with another's desk, by four loads of word 0:
+    /// the other's seat is joined into this one, and split off again.
     ///
     /// The run has all calls of both seats, and no other events of their workers.
     pub fn witness_with(&mut self, places: &Places, other: &mut Desk)

@@ -13,7 +13,8 @@ use Rattle.uc_places.specs.declared.view.Call.TheVariants.{Announce, Look, Propo
 use Rattle.uc_places.specs.declared.view.View.{View}
 use Rattle.uc_places.specs.Calls.{Makes, known, state_of, worker_of}
 use Rattle.uc_places.specs.Told.{moved_on}
-use Rattle.uc_worker.specs.Steps.{Announced, Decided, IsSame, Later, Learns}
+use Rattle.uc_worker.specs.Steps.{Decided, IsSame, Later}
+use Rattle.uc_worker.proofs.Steps.{Announced, Learns}
 use Rattle.lists.proofs.Public.{begins_longer, begins_same, begins_self, begins_through, last_at}
 
 both_true : (p q : Bool) → (p && q) ≡ true → (p ≡ true) × (q ≡ true)

@@ -1,3 +1,4 @@
+mod Steps
 pub mod Learning
 pub mod Onward
 pub mod Following

@@ -7,7 +7,8 @@ use Rattle.lists.specs.Lists.{BeginsWith}
 use Rattle.mc_model.specs.Legal.{ticket_of}
 use Rattle.uc_cells.specs.Sighting.{Sighting}
 use Rattle.uc_places.specs.declared.view.View.{View}
-use Rattle.uc_worker.specs.Steps.{Announced, Decided, IsSame, Later, Rests}
+use Rattle.uc_worker.specs.Steps.{Decided, IsSame, Later, Rests}
+use Rattle.uc_worker.proofs.Steps.{Announced}
 use Rattle.lists.proofs.Public.{last_at}
 
 pub idle_rests : (phase : Phase) → phase ≡ Idle → Rests phase

@@ -119,8 +119,8 @@ HaveReplayed nobody workers log = (number place : ℕ) (worker : Worker) (seen :
     (slice_get log.decided place ≡ Some seen.ticket)
     × (said_in nobody seen.entry ≡ said_under nobody workers seen.ticket)
 
--- each tenant's commands, but this one's, at the first places of the core's log are those at the first
--- places of the history of each of these workers
+-- each tenant's commands, but this one's, at the first places of the core's log are those at the
+-- first places of the history of each of these workers
 abbrev pub HaveItsCommands : ℕ → List Worker → CoreState → Type 0
 HaveItsCommands nobody workers core = (number tenant first : ℕ) (worker : Worker) →
     slice_get workers number ≡ Some worker → tenant ≢ nobody →
@@ -145,8 +145,8 @@ pub record DoOneCoreRun (settings : Configuration) (nobody : ℕ) (tables : List
   pub replayed : HaveOneHistory workers → HaveReplayed nobody workers log
   pub commands : HaveOneHistory workers → HaveItsCommands nobody workers core.core
 
--- All workers of a log that are on one run have done one run of the core: with the log's tenants, or
--- with one more, to whom the no-ops belong, which belong to nobody in the log.
+-- All workers of a log that are on one run have done one run of the core: with the log's tenants,
+-- or with one more, to whom the no-ops belong, which belong to nobody in the log.
 abbrev pub AllDoOneCoreRun : Type 0
 AllDoOneCoreRun = (settings : Configuration) (nobody : ℕ) (tables : List TableState) (log : Log)
     (workers : List Worker) → AreAllOf log workers → AreOnOneRun workers →
@@ -154,8 +154,9 @@ AllDoOneCoreRun = (settings : Configuration) (nobody : ℕ) (tables : List Table
     length log.settings.tenants ≤ length settings.tenants → nobody < length settings.tenants →
     0 < length workers → DoOneCoreRun settings nobody tables workers
 
--- Each own command of these workers is answered, at the place where its worker has replayed it, with
--- the reply that follows from that worker's history over these tables. No-ops belong to nobody.
+-- Each own command of these workers is answered, at the place where its worker has replayed it,
+-- with the reply that follows from that worker's history over these tables. No-ops belong to
+-- nobody.
 abbrev pub AnswersOwn : ℕ → List TableState → List Worker → List Given → Type 0
 AnswersOwn nobody tables workers given =
     (number place : ℕ) (worker : Worker) (seen : Sighting) (entry : Entry) →

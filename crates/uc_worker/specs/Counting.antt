@@ -1,4 +1,6 @@
--- How many events of the log a worker takes.
+-- How many events of the log a worker takes. An operation is wait-free if each process completes it
+-- in a finite number of steps, whatever the speeds of the others (Herlihy, Wait-Free
+-- Synchronization, TOPLAS 1991); this bound, by the places that are learned, is this project's own.
 use Rattle.std.specs.Prelude.{ℕ, ◌+◌, ◌*◌, ◌≤◌, List, length}
 use Rattle.uc_places.specs.declared.desk.Desk.{Desk}
 use Rattle.uc_places.specs.declared.view.Call.{Call}

@@ -1,4 +1,6 @@
--- How a worker's history follows the tickets that it has learned.
+-- How a worker's history follows the tickets that it has learned. The log is that of Herlihy's
+-- universal construction (Wait-Free Synchronization, TOPLAS 1991); histories and cells are this
+-- project's profile.
 use Rattle.std.specs.Prelude.{◌≡◌, ℕ, ◌+◌, ◌≤◌, ◌<◌, List, length, take, Some, slice_get}
 use Rattle.mc_model.specs.declared.id.Ticket.{Ticket}
 use Rattle.mc_model.specs.declared.request.Entry.{Entry}
@@ -28,8 +30,9 @@ abbrev pub LacksAtMostOne : View → List Sighting → Type 0
 LacksAtMostOne view history =
     view.state.announced ≤ count view.worker (take (length history) view.state.learned) + 1
 
--- What a worker of this number knows of its own commands, by what it has put into its cells: each is
--- of one of this many tenants, and where one stands in its history, it was seen there as it was put.
+-- What a worker of this number knows of its own commands, by what it has put into its cells: each
+-- is of one of this many tenants, and where one stands in its history, it was seen there as it was
+-- put.
 pub record KnowsItsOwn (tenants number : ℕ) (put history : List Sighting) : Type 0 where
   pub tenant : (at : ℕ) (seen : Sighting) (entry : Entry) → slice_get put at ≡ Some seen →
       seen.entry ≡ Some entry → entry.tenant < tenants

@@ -1,8 +1,9 @@
--- How a worker's steps change what its seat knows.
-use Rattle.std.specs.Prelude.{◌≡◌, ◌≢◌, ◌⊎◌, ℕ, ◌+◌, ◌-◌, ◌<◌, [], ◌∷◌, ◌++◌, length, Some, None, slice_get}
+-- How a worker's steps change what its seat knows. Announcing and deciding are those of Herlihy's
+-- universal construction (Wait-Free Synchronization, TOPLAS 1991); what is shown of a worker, and
+-- what a fault leaves, are this project's profile.
+use Rattle.std.specs.Prelude.{◌≡◌, ◌≢◌, ◌⊎◌, ℕ, ◌+◌, ◌-◌, ◌<◌, length, Some, None, slice_get}
 use Rattle.mc_model.specs.declared.fault.Fault.{Fault}
 use Rattle.mc_model.specs.declared.fault.Fault.TheVariants.{Memory, LogFull, Taken}
-use Rattle.mc_model.specs.declared.id.Ticket.{Ticket}
 use Rattle.mc_model.specs.declared.shown.Phase.{Phase}
 use Rattle.mc_model.specs.declared.shown.Phase.TheVariants.{Idle, Pending, Looked, Stopped}
 use Rattle.lists.specs.Lists.{BeginsWith}
@@ -17,14 +18,6 @@ Rests phase = (phase ≢ Looked) × (phase ≢ Stopped)
 -- the same worker of a log of the same size
 abbrev pub IsSame : View → View → Type 0
 IsSame old new = (new.size ≡ old.size) × (new.worker ≡ old.worker)
-
--- one more ticket is learned
-pub record Learns (old new : View) (ticket : Ticket) : Type 0 where
-  pub same : IsSame old new
-  pub told : new.told ≡ old.told
-  pub announced : new.state.announced ≡ old.state.announced
-  pub mark : new.state.mark ≡ old.state.mark
-  pub learned : new.state.learned ≡ old.state.learned ++ ticket ∷ []
 
 -- more tickets may be learned, and nothing is announced
 pub record Later (old new : View) : Type 0 where
@@ -43,13 +36,6 @@ HasReadOn view =
 pub record LearnsExactly (more : ℕ) (old new : View) : Type 0 where
   pub count : length new.state.learned ≡ length old.state.learned + more
   pub room : HasRoom new.size new.state
-
--- one command is announced, and is pending
-pub record Announced (old new : View) : Type 0 where
-  pub same : IsSame old new
-  pub announced : new.state.announced ≡ old.state.announced + 1
-  pub learned : new.state.learned ≡ old.state.learned
-  pub phase : new.state.phase ≡ Pending
 
 -- the command that was announced last is decided, and its ticket is the last one learned
 pub record Decided (old new : View) : Type 0 where

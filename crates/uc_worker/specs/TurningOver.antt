@@ -9,8 +9,8 @@ use Rattle.uc_worker.specs.declared.worker.Worker.{Worker}
 use Rattle.uc_worker.specs.Going.{CatchesUp}
 use Rattle.uc_worker.specs.Worker.{HasReplayedAll, history_of, openings_of, tables_of}
 
--- a worker of the log that has replayed all its places, and in whose tables as many changes as a log
--- of these settings has places can get uniques
+-- a worker of the log that has replayed all its places, and in whose tables as many changes as a
+-- log of these settings has places can get uniques
 pub record CanTurnOver (log : Log) (settings : Configuration) (worker : Worker) : Type 0 where
   pub of : worker.log.now ≡ log
   pub done : HasReplayedAll worker
@@ -23,8 +23,8 @@ pub record AllCanTurnOver (settings : Configuration) (workers : List Worker) : T
   pub some : 0 < length workers
   pub each : All (CanTurnOver log settings) workers
 
--- the same worker, with the log, opening tables, history and tables that it had; it may have learned
--- more, and has announced nothing
+-- the same worker, with the log, opening tables, history and tables that it had; it may have
+-- learned more, and has announced nothing
 pub record IsAsBefore (old new : Worker) : Type 0 where
   pub log : new.log ≡ old.log
   pub openings : openings_of new ≡ openings_of old

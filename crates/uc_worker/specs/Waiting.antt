@@ -1,4 +1,6 @@
--- What becomes of a pass, and of its pending command, while its worker goes on.
+-- What becomes of a pass, and of its pending command, while its worker goes on. Announcing and
+-- deciding are those of Herlihy's universal construction (Wait-Free Synchronization, TOPLAS 1991);
+-- passes, faults and no-ops are this project's profile.
 use Rattle.std.specs.Prelude.{◌≡◌, ◌≢◌, ◌⊎◌, ℕ, ◌+◌, ◌-◌, ◌<◌, ◌≤◌, [], ◌∷◌, ◌++◌, length, None, Some, slice_get}
 use Rattle.mc_model.specs.declared.command.Command.{Command}
 use Rattle.mc_model.specs.declared.fault.Fault.{Fault}
@@ -17,15 +19,6 @@ pub record LearnsOn (log : Log) (old new : Pass) : Type 0 where
   pub of : IsOf log new
   pub own : own_sightings new ≡ own_sightings old
   pub later : Later (seat old) (seat new)
-
--- the places before this one are learned, and the command is still pending
-pub record IsWaiting (log : Log) (old new : Pass) (place end : ℕ) : Type 0 where
-  pub of : IsOf log new
-  pub pending : (state new).phase ≡ Pending
-  pub later : Later (seat old) (seat new)
-  pub here : length (learned new) ≡ place
-  pub places : end ≡ (size old).places
-  pub own : own_sightings new ≡ own_sightings old
 
 -- the command is still pending, and has its mark if there is room
 pub record IsMarked (pass : Pass) : Type 0 where

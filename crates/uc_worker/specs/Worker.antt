@@ -1,4 +1,4 @@
--- What contracts say of a worker.
+-- What contracts say of a worker: its seat, cells, history and tables; this project's profile.
 use Rattle.std.specs.Option.{unwrap_or}
 use Rattle.std.specs.Prelude.{◌≡◌, ◌⊎◌, ℕ, ◌+◌, ◌-◌, ◌<◌, nat_le, if◌then◌else◌, List, length, Option, Some, None, slice_get}
 use Rattle.mc_model.specs.declared.command.Command.{Command}
@@ -82,7 +82,8 @@ IsSpent worker = IsFull worker
 abbrev pub sighting_of : Log → Entry → Sighting
 sighting_of log entry = sighting entry.ticket (Some entry) (row_of log entry.ticket)
 
--- the entry of the command that a pass announced last, or a made-up one if it has announced none
+-- the entry of the command that a pass announced last, or a made-up one if that was a no-op or
+-- there is none
 abbrev pub entry_or : Option Sighting → Entry
 entry_or (Some seen) =
     unwrap_or seen.entry (record { ticket = ticket_of 0 0; tenant = 0; command = Flush })

@@ -112,8 +112,8 @@ fn find_run_of_first<W: FindsRun>(all: &mut [W])
     first.find_run_with(others);
 }
 
-/// Lets all workers of a log find one run of it that has all that they have done. None of them takes
-/// a step.
+/// Lets all workers of a log find one run of it that has all that they have done. None of them
+/// takes a step.
 pub fn find_run_of_all(log: &Log, workers: &mut [Worker<'_>])
     requires { AreOfLog log.now workers.old }
     ensures still { AllZip TakesNoStep workers.old workers.new }

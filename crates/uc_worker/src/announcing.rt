@@ -73,8 +73,8 @@ pub(crate) fn decide_new<G: Gate>(
 /// Announces a no-op, and goes on until it is decided or all places are learned: at least one more
 /// is learned then.
 ///
-/// Returns `Memory` if memory runs out, and `Taken` if its cell holds an entry: nothing is announced
-/// then.
+/// Returns `Memory` if memory runs out, and `Taken` if its cell holds an entry: nothing is
+/// announced then.
 pub(crate) fn decide_no_op<G: Gate>(
     log: &Log,
     alloc: Global,

@@ -11,8 +11,8 @@ use crate::worker::Worker;
 use mc_model::Fault;
 
 impl<'a> Worker<'a> {
-    /// Fills at least one more place with a no-op, once a command that an earlier call left pending is
-    /// decided, and replays all that is learned then. Returns whether places may be left.
+    /// Fills at least one more place with a no-op, once a command that an earlier call left pending
+    /// is decided, and replays all that is learned then. Returns whether places may be left.
     ///
     /// Returns the errors of `fill`.
     fn fill_some<G: Gate>(&mut self, gate: &mut G) -> Result<bool, Fault>
@@ -36,8 +36,8 @@ impl<'a> Worker<'a> {
     }
 
     /// Fills the places that are left in the log with no-ops, which belong to nobody, and replays
-    /// all places: a log is closed then, before its commands have taken all its places. Other workers
-    /// may fill places at the same time.
+    /// all places: a log is closed then, before its commands have taken all its places. Other
+    /// workers may fill places at the same time.
     ///
     /// Returns `Memory` if memory runs out, and `Taken` if a cell that is to stay empty holds an
     /// entry; some places may be filled then.

@@ -1,9 +1,10 @@
-//! The gate that a worker passes after each step of `submit` and `catch_up`.
+//! The gate that a worker passes after each step of a call that takes one: `submit`, `catch_up`,
+//! `catch_up_some` and `fill`.
 
 /// A step of a worker.
 #[derive(Clone, Copy, Debug, PartialEq, Eq)]
 pub enum Step {
-    /// It has announced a command.
+    /// It has announced a command or a no-op.
     Announce,
     /// It has read a place.
     Read,
@@ -15,8 +16,8 @@ pub enum Step {
     Replay,
 }
 
-/// Sees each step of a worker's `submit` or `catch_up` directly after it, and may hold the worker
-/// there: others go on without it.
+/// Sees each step of a worker's `submit`, `catch_up`, `catch_up_some` or `fill` directly after it,
+/// and may hold the worker there: others go on without it.
 pub trait Gate {
     /// Is called directly after this step.
     fn at(&mut self, step: Step);

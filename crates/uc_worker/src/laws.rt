@@ -48,8 +48,8 @@ impl<'a> GoesOn for Worker<'a> {
     } };
 }
 
-/// `Continues`, `CatchesUp` and `FillsUp` are reflexive and transitive, and a worker that catches up
-/// has filled nothing.
+/// `Continues`, `CatchesUp` and `FillsUp` are reflexive and transitive, and a worker that catches
+/// up has filled nothing.
 pub fn workers_go_on()
     ensures same { (worker : Worker) → Continues worker worker }
     ensures through { (first second third : Worker) → Continues first second →
@@ -81,9 +81,9 @@ pub fn who_has_read_on_has_learned_the_log()
         length view.last.decided ≡ length view.state.learned }
 {}
 
-/// What a fault leaves, by what the worker has learned. If memory ran out or the cell was taken, all
-/// its commands are among that, and at the latter the call has announced none. If the log is full,
-/// the call's command isn't.
+/// What a fault leaves, by what the worker has learned. If memory ran out or the cell was taken,
+/// all its commands are among that, and at the latter the call has announced none. If the log is
+/// full, the call's command isn't.
 pub fn faults_leave_nothing_open()
     ensures settled { (fault : Fault) (old new : View) → Leaves fault old new →
         SeatLaw new.size new.worker new.state → (fault ≡ Memory) ⊎ (fault ≡ Taken) →

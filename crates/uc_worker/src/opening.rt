@@ -16,8 +16,8 @@ use uc_log::{Log, Pass};
 
 impl<'a> Worker<'a> {
     /// Opens the worker with this pass of the log, with an empty table for each tenant of the log's
-    /// settings, which hashes keys so. Each table that is opened over one of these later hashes them
-    /// so too.
+    /// settings, which hashes keys so. Each table that is opened over one of these later hashes
+    /// them so too.
     ///
     /// Returns `Memory` if memory runs out.
     pub fn open(

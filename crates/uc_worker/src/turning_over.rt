@@ -1,4 +1,5 @@
-//! Closing a log whose workers have replayed all its places, and opening a new one over their tables.
+//! Closing a log whose workers have replayed all its places, and opening a new one over their
+//! tables.
 ghost use Rattle.std.specs.List.{AllZip};
 ghost use Rattle.std.specs.Prelude.{◌≡◌, ◌↔◌, ◌<◌, ◌∷◌, ℕ, All, List, Some, [], length, slice_get, IfOk, IsOk, IsOkUnless, IsTrue, OnOk};
 ghost use Rattle.mc_model.specs.declared.fault.Fault.TheVariants as faults;
@@ -41,8 +42,8 @@ impl Base {
     }
 }
 
-/// A log on which nothing has been done, its passes by the workers' numbers, and the tables that its
-/// workers are to be opened over.
+/// A log on which nothing has been done, its passes by the workers' numbers, and the tables that
+/// its workers are to be opened over.
 #[derive(Drop)]
 pub struct Next {
     pub log: Log,
@@ -82,8 +83,8 @@ fn meet_all<'a>(worker: &mut Worker<'a>, others: &mut [Worker<'a>]) -> Result<()
     Ok(())
 }
 
-/// What can meet others of its kind. Generic code over it may split a slice of workers in two, which
-/// isn't proved for a type with a lifetime.
+/// What can meet others of its kind. Generic code over it may split a slice of workers in two,
+/// which isn't proved for a type with a lifetime.
 trait Meets: Sized {
     /// The first can meet these.
     ghost can_meet: { Self → List Self → Type 0 };
@@ -173,10 +174,11 @@ pub fn turn_over(
     requires { AllCanTurnOver settings.now workers.old }
     // Whatever comes of it, log, history and tables of each worker are what they were.
     ensures before { AllZip IsAsBefore workers.old workers.new }
-    // All have replayed the same, so what one of them has answered stands in the log that is closed.
+    // All have replayed the same, so what one of them has answered stands in the log that is
+    // closed.
     ensures same { OnOk result (HaveOneHistory workers.new) }
-    // One run of the log that is closed, from its opening, has all calls of these workers' seats, in
-    // order, and no other events of theirs.
+    // One run of the log that is closed, from its opening, has all calls of these workers' seats,
+    // in order, and no other events of theirs.
     ensures run { OnOk result (AreOnOneRun workers.new) }
     // The new log begins with the tables that the workers have,
     ensures base { IfOk result (λ next. (first : _) → slice_get workers.old 0 ≡ Some first →

@@ -21,8 +21,8 @@ fn is_filled(worker: &Worker<'_>, places: usize) -> bool {
     worker.is_done() && history.len() == places && commands == 2 && are_first
 }
 
-/// Returns whether the rest of a log with this many places is filled after two commands, and whether
-/// it was closing before.
+/// Returns whether the rest of a log with this many places is filled after two commands, and
+/// whether it was closing before.
 fn fills(alloc: Global, places: u64) -> Result<(bool, bool), Fault> {
     let (log, passes) = opened(alloc, 2, places, &[QUOTAS])?;
     let (mut first, mut second) = both_clients(alloc, &log, passes)?;

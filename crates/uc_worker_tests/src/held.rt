@@ -141,8 +141,8 @@ fn work_beside(alloc: Global, client: &mut Client<'_>, work: Work) -> Result<boo
     }
 }
 
-/// Does the other worker's part once the first is held. Returns `BadEvent` if it was answered wrong,
-/// or the first never is.
+/// Does the other worker's part once the first is held. Returns `BadEvent` if it was answered
+/// wrong, or the first never is.
 fn work_meanwhile(
     alloc: Global,
     client: &mut Client<'_>,
@@ -302,7 +302,8 @@ fn held_around<R: Threads + Sync>(rt: &R, alloc: Global, left: u32) -> Result<bo
 fn held_at_each_step_around_a_turn_over(rt: HostRuntime) -> Result<(), Fail> {
     for left in 0..MOST {
         if !held_around(&rt, rt.alloc(), left)? {
-            // Filling takes the most: a read, an announcement, a read, a look, a proposal, a replay.
+            // Filling takes the most: a read, an announcement, a read, a look, a proposal, a
+            // replay.
             assert_eq!(rt; left, 6);
             return Ok(());
         }

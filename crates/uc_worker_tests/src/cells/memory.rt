@@ -1,6 +1,6 @@
 //! A call that runs out of memory says so, and leaves the cell as it was.
-//! `tests/allocation_failures.py` refuses each allocation of these tests in turn: if it is one of the
-//! call's own, the test ends with `REPORTED` instead of going on.
+//! `tests/allocation_failures.py` refuses each allocation of these tests in turn: if it is one of
+//! the call's own, the test ends with `REPORTED` instead of going on.
 ghost use Rattle.uc_cells.specs.Cells.{HasCell};
 
 use crate::cells::values::{entry_of, ticket_in};

@@ -2,16 +2,16 @@
 -- learned.
 use Rattle.std.proofs.Common.{◌-◌, length}
 use Rattle.std.specs.List.{AllZip}
-use Rattle.mc_server.specs.Crew.{AreOf}
 use Rattle.uc_worker.specs.Going.{CatchesUp}
 use Rattle.uc_worker.specs.Worker.{IsUpToDate, history_of, seat_of}
 use Rattle.mc_server.proofs.crew.meet_all.Given as goal
+use Rattle.uc_worker.specs.AllWorkers.{AreOfLog}
 
 abbrev pub invariant-loop-last : goal.invariant-loop-last
 invariant-loop-last l = record {
   later : CatchesUp l.initial.last l.last;
   whole : IsUpToDate l.last;
-  of : AreOf l.last.log.now l.others.items;
+  of : AreOfLog l.last.log.now l.others.items;
   others : AllZip CatchesUp l.initial.others.items l.others.items;
 }
 

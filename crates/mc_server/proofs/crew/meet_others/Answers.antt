@@ -5,22 +5,23 @@ use Rattle.std.specs.List.{AllZip}
 use Rattle.uc_worker.specs.Cited.{Sighting}
 use Rattle.mc_model.specs.declared.id.Ticket.{Ticket}
 use Rattle.uc_worker.specs.declared.worker.Worker.{Worker}
-use Rattle.mc_server.specs.Crew.{AreOf, MeetsAnother}
+use Rattle.mc_server.specs.Crew.{MeetsAnother}
 use Rattle.uc_worker.specs.Worker.{IsUpToDate}
 use Rattle.mc_server.proofs.Meetings.{catches_self, catches_through, meets, one_more_met}
 use Rattle.mc_server.proofs.crew.meet_others.Goals as goal
+use Rattle.uc_worker.specs.AllWorkers.{AreOfLog}
 
 pub loop-other-init : goal.loop-other-init
 loop-other-init c = record {
   later = catches_self c.args.one.now;
   whole = c.requires.whole;
-  left = subst (AreOf c.args.one.now.log.now) (sym c.into_iter-other-iterator.ensures.into_iter_gives.0) c.requires.log;
+  left = subst (AreOfLog c.args.one.now.log.now) (sym c.into_iter-other-iterator.ensures.into_iter_gives.0) c.requires.log;
   met = ([], c.into_iter-other-iterator.ensures.into_iter_gives.0, subst (AllZip (MeetsAnother c.args.one.now c.args.one.now) []) (sym {A = List Worker} c.in_ok-met.ensures.items) tt);
 }
 
 pub meet-requires : goal.meet-requires
 meet-requires c =
-    sym (All-head (λ (other : Worker). other.log.now ≡ c.loop-other.one.log.now) c.in-Some.other _ (subst (AreOf c.loop-other.one.log.now) c.in-Some.ensures.steps.0 c.loop-other.invariant.left))
+    sym (All-head (λ (other : Worker). other.log.now ≡ c.loop-other.one.log.now) c.in-Some.other _ (subst (AreOfLog c.loop-other.one.log.now) c.in-Some.ensures.steps.0 c.loop-other.invariant.left))
 
 pub loop-other-preserved : goal.loop-other-preserved
 loop-other-preserved c =
@@ -39,7 +40,7 @@ loop-other-preserved c =
     record {
       later = catches_through _ _ _ before.later step;
       whole = all.0;
-      left = subst (λ log. AreOf log c.next.new.self.rest.items) same left;
+      left = subst (λ log. AreOfLog log c.next.new.self.rest.items) same left;
       met = (done ++ c.in-Some.other ∷ [], split, subst (AllZip (MeetsAnother c.args.one.now c.meet.new.self) (done ++ c.in-Some.other ∷ [])) (sym {A = List Worker} c.in_ok-push.ensures.items) met);
     }
 

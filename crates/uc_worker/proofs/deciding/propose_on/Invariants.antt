@@ -2,7 +2,7 @@
 use Rattle.std.proofs.Common.{◌≢◌, None}
 use Rattle.uc_log.specs.Passes.{desk, state}
 use Rattle.uc_worker.specs.Counting.{TakesFew}
-use Rattle.uc_worker.specs.Waiting.{IsWaiting}
+use Rattle.uc_worker.proofs.Steps.{IsWaiting}
 use Rattle.uc_worker.proofs.deciding.propose_on.Given as goal
 
 abbrev pub invariant-loop-place : goal.invariant-loop-place

@@ -1,7 +1,7 @@
 -- The command is still pending, and each event has taught a place.
 use Rattle.uc_log.specs.Passes.{desk}
 use Rattle.uc_worker.specs.Counting.{TakesFew}
-use Rattle.uc_worker.specs.Waiting.{IsWaiting}
+use Rattle.uc_worker.proofs.Steps.{IsWaiting}
 use Rattle.uc_worker.proofs.deciding.read_on.Given as goal
 
 abbrev pub invariant-loop-place : goal.invariant-loop-place
