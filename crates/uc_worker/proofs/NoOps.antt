@@ -1,5 +1,5 @@
 -- Workers that fill the places that are left, and the end of a log.
-use Rattle.std.proofs.Common.{◌≡◌, ◌⊎◌, ℕ, zero, suc, ◌+◌, ◌<◌, ◌≤◌, Bool, true, false, if◌then◌else◌, List, [], ◌∷◌, ◌++◌, length, length-append, get_or, slice_get, slice_set, None, Some, sym, refl, ap, ◌∙◌, subst, ⊎_elim, arith}
+use Rattle.std.proofs.Common.{◌≡◌, ℕ, zero, suc, ◌+◌, ◌<◌, ◌≤◌, Bool, true, false, if◌then◌else◌, List, [], ◌∷◌, ◌++◌, length, length-append, get_or, slice_get, slice_set, None, Some, sym, refl, ap, ◌∙◌, subst, ⊎_elim, arith}
 use mathlib.Core.Logic.{dite}
 use Rattle.std.proofs.Math.Decide.{dec_le}
 use Rattle.std.proofs.lemmas.Option.{same_Some, slice_get-get_or, slice_get_within}
@@ -9,11 +9,10 @@ use Rattle.mc_model.specs.declared.shown.LogSize.{LogSize}
 use Rattle.uc_cells.specs.Sighting.{Sighting}
 use Rattle.uc_log.specs.declared.log.Log.{Log}
 use Rattle.uc_log.specs.declared.pass.Pass.{Pass}
-use Rattle.mc_model.specs.State.{TableState}
 use Rattle.uc_log.specs.Passes.{learned, next_no_op, own_sightings, seat}
 use Rattle.uc_worker.specs.declared.worker.Worker.{Worker}
 use Rattle.uc_worker.specs.contracts.laws.WorkerGoesOn.TheImpl.{continues_self-value, continues_through-value}
-use Rattle.uc_worker.specs.Going.{CatchesUp, Continues, FillsUp}
+use Rattle.uc_worker.specs.Going.{CatchesUp, FillsUp}
 use Rattle.uc_worker.specs.Steps.{IsSame}
 use Rattle.uc_worker.specs.Waiting.{AnnouncesNoOp, LearnsOn}
 use Rattle.uc_worker.specs.Worker.{HasReplayedAll, IsClosing, IsUpToDate, announced_of, history_of, openings_of, places_kept, seat_of}

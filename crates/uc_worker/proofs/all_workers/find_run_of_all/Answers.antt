@@ -1,5 +1,5 @@
 -- They are of one log; and nobody is on a run of nothing.
-use Rattle.std.proofs.Common.{◌≡◌, ◌∙◌, length, sym}
+use Rattle.std.proofs.Common.{◌∙◌, length, sym}
 use Rattle.std.proofs.lemmas.Bool.{eqb-true}
 use Rattle.uc_worker.proofs.AllWorkers.{all_quiet, are_of_first}
 use Rattle.uc_worker.proofs.OneCoreRun.{nobody_on_one_run}

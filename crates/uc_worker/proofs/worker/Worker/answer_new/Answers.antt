@@ -1,5 +1,5 @@
 -- What was put last is the tenant's command, and it is the last that was replayed.
-use Rattle.std.proofs.Common.{◌≡◌, ℕ, ◌-◌, ◌<◌, ◌∷◌, [], length, take, slice_get, Some, sym, ap, ◌∙◌, arith, refl, ⊎_elim}
+use Rattle.std.proofs.Common.{◌≡◌, ℕ, ◌-◌, ◌∷◌, [], length, take, slice_get, Some, sym, ap, ◌∙◌, arith, refl, ⊎_elim}
 use Rattle.mc_model.specs.declared.request.Entry.{Entry}
 use Rattle.mc_model.specs.Replay.{reply_to}
 use Rattle.uc_cells.specs.Sighting.{entries}
