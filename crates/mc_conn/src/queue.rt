@@ -113,21 +113,28 @@ impl Queue {
         self.len() == 0
     }
 
-    /// Returns the bytes at the front that stand together, at least one if any is to be pushed.
-    pub fn front(&self) -> &[u8]
-        ensures front { StartsWith self.now result.now }
-        ensures some { 0 < length self.now → 0 < length result.now }
+    /// Returns bytes at the front, in three slices each of which stands behind the one before: own
+    /// bytes, the run behind them and the own bytes behind that; or what is left of a run alone. The
+    /// first isn't empty if any is to be pushed.
+    pub fn front(&self) -> (&[u8], &[u8], &[u8])
+        ensures front { StartsWith self.now (result.0.now ++ (result.1.now ++ result.2.now)) }
+        ensures some { 0 < length self.now → 0 < length result.0.now }
     {
-        match self.parts.front() {
-            None => &self.bytes[self.pushed..],
-            Some(part) => {
-                if part.own > 0 {
-                    &self.bytes[self.pushed..self.pushed + part.own]
-                } else {
-                    part.run.as_slice()
-                }
-            }
+        let own = &self.bytes[self.pushed..];
+        let none = &own[..0];
+        let Some(part) = self.parts.front() else {
+            return (own, none, none);
+        };
+        let run = part.run.as_slice();
+        if part.own == 0 {
+            return (run, none, none);
         }
+        let (before, others) = own.split_at(part.own);
+        let behind = match self.parts.get(1) {
+            Some(next) => &others[..next.own],
+            None => others,
+        };
+        (before, run, behind)
     }
 
     /// Pushes what is queued until all is taken, or the output is full or fails, and leaves it

@@ -25,7 +25,8 @@ fn push_queue<O: Output>(queue: &mut Queue, output: &mut O) -> (usize, Stop)
     let all = queue.len();
     let mut sent = 0;
     while sent < all {
-        match output.push(queue.front()) {
+        let (first, second, third) = queue.front();
+        match output.push_parts(first, second, third) {
             Push::Taken(count) => {
                 queue.advance(count);
                 sent += count;

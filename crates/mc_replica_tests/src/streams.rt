@@ -119,6 +119,19 @@ fn takes_by_its_steps(rt: HostRuntime) -> Result<(), Fail> {
     Ok(())
 }
 
+/// An output without a call for several slices takes of the first one alone.
+#[test]
+fn takes_the_first_of_three_parts(rt: HostRuntime) -> Result<(), Fail> {
+    let mut output = MemoryOutput::new(rt.alloc(), Vec::new(rt.alloc()));
+    let push = output.push_parts(b"ab", b"cd", b"ef");
+    if push == Push::Failed {
+        return Err(Fail::from("out of memory"));
+    }
+    assert!(rt; push == Push::Taken(2));
+    assert!(rt; output.as_bytes() == b"ab".as_slice());
+    Ok(())
+}
+
 #[test]
 fn lends_its_pulls(rt: HostRuntime) -> Result<(), Fail> {
     let alloc = rt.alloc();

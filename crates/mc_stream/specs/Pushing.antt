@@ -1,10 +1,12 @@
 -- What an output took of the bytes that it was given, one push after another; this project's
 -- profile.
-use Rattle.std.specs.Prelude.{◌≡◌, true, ◌+◌, ◌⊎◌, List, [], ◌++◌, ℕ}
+use Rattle.std.specs.Prelude.{◌≡◌, true, ◌+◌, ◌⊎◌, List, [], ◌++◌, take, ℕ}
 use Rattle.mc_stream.specs.Event.{failures, had_to_wait, moved, waits}
 use Rattle.mc_stream.specs.Stream.{Outflow}
 use Rattle.mc_stream.specs.declared.pushing.Stop.{Stop}
 use Rattle.mc_stream.specs.declared.pushing.Stop.TheVariants.{All, Full, Failed}
+use Rattle.mc_stream.specs.declared.stream.Push.{Push}
+use Rattle.mc_stream.specs.declared.stream.Push.TheVariants as push
 
 -- these bytes were pushed between the two states
 abbrev pub Pushes : Outflow → Outflow → List ℕ → Type 0
@@ -17,6 +19,18 @@ IsUnfailed before after = failures after.events ≡ failures before.events
 -- the output failed once between the two states
 abbrev pub FailsOnce : Outflow → Outflow → Type 0
 FailsOnce before after = failures after.events ≡ failures before.events + 1
+
+-- A push of these bytes answered this: what it took is pushed; or nothing is, since the output was
+-- full or failed.
+abbrev pub IsPush : Push → List ℕ → Outflow → Outflow → Type 0
+IsPush (push.Taken count) bytes before after =
+    Pushes before after (take count bytes) × IsUnfailed before after
+    × (waits after.events ≡ waits before.events)
+IsPush push.Full bytes before after =
+    Pushes before after [] × IsUnfailed before after × (had_to_wait after.events ≡ true)
+    × (waits after.events ≡ waits before.events + 1)
+IsPush push.Failed bytes before after =
+    Pushes before after [] × FailsOnce before after × (waits after.events ≡ waits before.events)
 
 -- a prefix of what was queued is pushed, and the rest is still queued
 pub record Unqueues (before after : List ℕ) (output_before output : Outflow) : Type 0 where

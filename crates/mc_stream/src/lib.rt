@@ -7,7 +7,7 @@
 
 pub use memory::{InputStep, MemoryInput, MemoryOutput, OutputStep};
 pub use pushing::{Stop, push_front, push_while_taken};
-pub use standard::{ReadInput, WriteOutput};
+pub use standard::{ReadInput, WriteOutput, WriteParts};
 pub use stream::{Input, Output, Pull, Push};
 pub use tape::Tape;
 

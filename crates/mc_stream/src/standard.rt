@@ -5,7 +5,11 @@
 //! on, and that a write is flushed, is in the bodies of `pull` and `push`; the clauses `rest` and
 //! `written` tie their bytes to a stream that reports its own.
 ghost use Rattle.std.specs.IoError.{error_kind};
-ghost use Rattle.std.specs.Prelude.{◌≡◌, ◌∷◌, ◌<◌, [], length};
+ghost use Rattle.std.specs.Io.{WritesAtMost};
+ghost use Rattle.std.specs.Io.KnownBytes.{Keeps, WriteAppends};
+ghost use Rattle.std.specs.Prelude.{◌≡◌, ◌∷◌, ◌++◌, ◌<◌, ◌≤◌, [], length};
+ghost use Rattle.mc_stream.specs.Pushing.{IsPush};
+ghost use Rattle.mc_stream.specs.declared.stream.Push.TheVariants as Push;
 ghost use Rattle.mc_stream.specs.Standard.{WritesTaken, asks_again, pull_of, push_of, read_of, reader_of, writer_of, written_of};
 ghost use Rattle.mc_stream.specs.Stream.{GivesAtMost, TakesAtMost, pull_event, push_event};
 
@@ -55,6 +59,16 @@ fn push_of(written: &io::Result<usize>, flushed: &io::Result<()>) -> Push
                 Push::Failed
             }
         }
+    }
+}
+
+/// Flushes a writer once a write has taken bytes.
+fn flush_after<W: Write>(written: &io::Result<usize>, writer: &mut W) -> io::Result<()>
+    ensures { Keeps (W.contents writer.old) (W.contents writer.new) }
+{
+    match written {
+        Ok(0) | Err(_) => Ok(()),
+        Ok(_) => writer.flush(),
     }
 }
 
@@ -153,6 +167,69 @@ impl<W> WriteOutput<W> {
     }
 }
 
+/// A writer that can write three slices by one call.
+pub trait WriteParts: Write {
+    /// Writes bytes from the front of three slices, as if each stood behind the one before. Returns
+    /// how many it wrote.
+    fn write_parts(&mut self, first: &[u8], second: &[u8], third: &[u8]) -> io::Result<usize>
+        ensures bound { WritesAtMost result (first.now ++ (second.now ++ third.now)) }
+        ensures bytes { WriteAppends (Self.contents self.old) (Self.contents self.new) result
+            (first.now ++ (second.now ++ third.now)) };
+}
+
+impl<W: WriteParts> WriteOutput<W> {
+    /// Pushes three slices by one write, as `Output::push_parts` has it.
+    pub fn push_at_once(&mut self, first: &[u8], second: &[u8], third: &[u8]) -> Push
+        requires { 0 < length first.now }
+        ensures count { TakesAtMost (length (first.now ++ (second.now ++ third.now))) result }
+        ensures push { IsPush result (first.now ++ (second.now ++ third.now)) (written_of self.old)
+            (written_of self.new) }
+
+        // If the writer reports its bytes.
+        ensures written { WritesTaken (W.contents (writer_of self.old))
+            (W.contents (writer_of self.new)) result
+            (first.now ++ (second.now ++ third.now)) }
+    {
+        let taken = self.writer.write_parts(first, second, third);
+        let flushed = flush_after(&taken, &mut self.writer);
+        let push = push_of(&taken, &flushed);
+        match push {
+            Push::Taken(count) => note_parts(count, first, second, third, &mut self.tape),
+            Push::Full => self.tape.waits(),
+            Push::Failed => self.tape.fails(),
+        }
+        push
+    }
+}
+
+/// Puts the first `count` bytes of two slices on the tape: what stands in each is a move of its own.
+fn note_both(count: usize, first: &[u8], second: &[u8], tape: &mut Tape)
+    requires { count ≤ length (first.now ++ second.now) }
+    ensures { IsPush (Push.Taken count) (first.now ++ second.now)
+        (record { events = tape.old.events }) (record { events = tape.new.events }) }
+{
+    if count <= first.len() {
+        tape.moves(&first[..count]);
+    } else {
+        tape.moves(first);
+        tape.moves(&second[..count - first.len()]);
+    }
+}
+
+/// Puts the first `count` bytes of three slices on the tape, as `note_both` does those of two.
+fn note_parts(count: usize, first: &[u8], second: &[u8], third: &[u8], tape: &mut Tape)
+    requires { count ≤ length (first.now ++ (second.now ++ third.now)) }
+    ensures { IsPush (Push.Taken count) (first.now ++ (second.now ++ third.now))
+        (record { events = tape.old.events }) (record { events = tape.new.events }) }
+{
+    if count <= first.len() {
+        tape.moves(&first[..count]);
+    } else {
+        tape.moves(first);
+        note_both(count - first.len(), second, third, tape);
+    }
+}
+
 /// Puts what a push did on the tape.
 fn note_push(push: Push, bytes: &[u8], tape: &mut Tape)
     requires { TakesAtMost (length bytes.now) push }
@@ -180,10 +257,7 @@ impl<W: Write> Output for WriteOutput<W> {
             (W.contents (writer_of self.new)) result bytes.now }
     {
         let written = self.writer.write(bytes);
-        let flushed = match written {
-            Ok(0) | Err(_) => Ok(()),
-            Ok(_) => self.writer.flush(),
-        };
+        let flushed = flush_after(&written, &mut self.writer);
         let push = push_of(&written, &flushed);
         note_push(push, bytes, &mut self.tape);
         push

@@ -1,6 +1,7 @@
 //! The traits of what gives bytes and what takes them.
 ghost use Rattle.std.specs.Io.KnownBytes.{Consumes, IsAtEnd};
-ghost use Rattle.std.specs.Prelude.{◌≡◌, ◌∷◌, ◌<◌, length};
+ghost use Rattle.std.specs.Prelude.{◌≡◌, ◌∷◌, ◌++◌, ◌<◌, length};
+ghost use Rattle.mc_stream.specs.Pushing.{IsPush};
 ghost use Rattle.mc_stream.specs.Stream.{GivesAtMost, Inflow, Outflow, TakesAtMost, pull_event, pulled_by, push_event};
 
 /// What a pull gave.
@@ -54,6 +55,19 @@ pub trait Output {
         ensures count { TakesAtMost (length bytes.now) result }
         ensures event { (tells self.new).events
             ≡ push_event result bytes.now ∷ (tells self.old).events };
+
+    /// Takes bytes from the front of three slices, as if each stood behind the one before. An output
+    /// that can take all of them at once does; any other takes of the first alone.
+    fn push_parts(&mut self, first: &[u8], second: &[u8], third: &[u8]) -> Push
+        requires { 0 < length first.now }
+        ensures count { TakesAtMost (length (first.now ++ (second.now ++ third.now))) result }
+        ensures push { IsPush result (first.now ++ (second.now ++ third.now)) (tells self.old)
+            (tells self.new) }
+    {
+        let _ = second;
+        let _ = third;
+        self.push(first)
+    }
 }
 
 impl<I: Input> Input for &mut I {
@@ -69,5 +83,9 @@ impl<O: Output> Output for &mut O {
 
     fn push(&mut self, bytes: &[u8]) -> Push {
         Output::push(&mut **self, bytes)
+    }
+
+    fn push_parts(&mut self, first: &[u8], second: &[u8], third: &[u8]) -> Push {
+        Output::push_parts(&mut **self, first, second, third)
     }
 }
