@@ -1,11 +1,13 @@
 #!/usr/bin/env python3
-"""Compares wfmc with memcached row by row, over logs that follow one another: rows.py [RUNS] [--seconds N] [--threads N...] [--rows WORD].
+"""Compares wfmc with memcached row by row, over logs that follow one another: rows.py [RUNS] [--seconds N] [--threads N...] [--rows WORD] [--places N]
+[--log-bytes N].
 
 A row has a number of connections with so many requests at a time each, of which 95 or 50 in 100 are gets and the others sets, data of
-100 bytes to 1 MiB, and keys. For each the servers are started by turns, anew for each of RUNS (3) runs of N (3) seconds, with as many workers as
-threads (1, 2 and 4). Prints for each row and server the median, the least and the greatest: requests a second, the server's processor time a
-request, and its page faults a request. With --rows only rows whose names have WORD are measured. Needs memcached and gcc; the rows of 1,000,000 keys
-and of long data take up to 4 GB of memory.
+100 bytes to 1 MiB, and keys. A log is closed after 1 GiB (--log-bytes), and has as many places (--places) as that has data for, at most
+1,048,576, as docs/OPERATING.md advises ("The bytes of a log"). For each row the servers are started by turns, anew for each of RUNS (3) runs of N (3)
+seconds, with as many workers as threads (1, 2 and 4). Prints for each row and server the median, the least and the greatest: requests a second,
+the server's processor time a request, and its page faults a request. With --rows only rows whose names have WORD are measured. Needs memcached
+and gcc; the rows of 1,000,000 keys and of long data take up to 4 GB of memory.
 """
 
 import argparse
@@ -23,6 +25,8 @@ PROGRAM = repository.program("wfmc")
 SHAPES = ((50, 1), (8, 32))  # connections, requests that each sends at once
 GETS = (95, 50)  # in 100
 DATA = ((100, 10_000), (100, 1_000_000), (4_096, 10_000), (65_536, 1_000), (1_048_576, 100))  # bytes of an item, keys
+LOG_BYTES = 1 << 30  # as it comes
+MOST_PLACES = 1_048_576
 MOST_A_SECOND = {1: 500_000, 32: 4_000_000}  # requests, more than a server answers at these depths
 NAMES = {100: "100 B", 4_096: "4 KiB", 65_536: "64 KiB", 1_048_576: "1 MiB"}
 
@@ -32,14 +36,14 @@ def rows():
         for gets in GETS:
             for size, keys in DATA:
                 name = f"{connections} x {depth}, {gets} % gets, {NAMES[size]}, {keys:,} keys"
-                yield name, ["-k", str(keys), "-d", str(size), "-g", str(gets)], (connections, depth)
+                yield name, ["-k", str(keys), "-d", str(size), "-g", str(gets)], (connections, depth), size
 
 
-def start(which, threads):
+def start(which, threads, places, log_bytes):
     if which == "memcached":
         server = Memcached("-t", str(threads), "-m", "4096", "-I", "2m")
         return server, server.port
-    options = ["--workers", str(threads), "--places", "1048576", "--generations", "0"]
+    options = ["--workers", str(threads), "--places", str(places), "--generations", "0", "--log-bytes", str(log_bytes)]
     server = Server(PROGRAM, options, {"a": LARGE})
     return server, server.ports["a"]
 
@@ -57,9 +61,9 @@ def load(program, options, port, shape, seconds):
     return list(figures_of(subprocess.run([str(word) for word in words], capture_output=True, text=True, check=True).stdout))
 
 
-def run(program, which, threads, options, shape, seconds):
+def run(program, which, threads, log, options, shape, seconds):
     """The measurements of one run, after one that sets the keys."""
-    server, port = start(which, threads)
+    server, port = start(which, threads, *log)
     with server:
         load(program, options, port, shape, 1)
         time, faults = server.processor_seconds(), faults_of(server)
@@ -78,6 +82,8 @@ def main():
     parser.add_argument("--seconds", type=int, default=3)
     parser.add_argument("--threads", type=int, nargs="+", default=[1, 2, 4])
     parser.add_argument("--rows", default="")
+    parser.add_argument("--places", type=int)
+    parser.add_argument("--log-bytes", type=int, default=LOG_BYTES)
     words = parser.parse_args()
     repository.enter(PROGRAM)
     repository.require("memcached", "gcc")
@@ -85,14 +91,15 @@ def main():
         program = f"{folder}/load"
         subprocess.run(["gcc", "-O2", "-o", program, "bench/load.c"], check=True)
         print_load("start")
-        for name, options, shape in rows():
+        for name, options, shape, size in rows():
             if words.rows not in name:
                 continue
+            log = words.places or min(words.log_bytes // size, MOST_PLACES), words.log_bytes
             for threads in words.threads:
                 found = {"wfmc": [], "memcached": []}
                 for _ in range(words.runs):
                     for which, runs in found.items():
-                        runs.append(run(program, which, threads, options, shape, words.seconds))
+                        runs.append(run(program, which, threads, log, options, shape, words.seconds))
                 for which, runs in found.items():
                     for (what, unit), values in gathered(runs).items():
                         print_spread(f"{name}, {threads} threads: {which}: {what}", values, unit)
