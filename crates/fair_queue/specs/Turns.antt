@@ -25,7 +25,7 @@ flow_at state flow = slice_index_or state.flows flow idle
 abbrev pub with_flow : QueueState → ℕ → FlowState → QueueState
 with_flow state number flow = record state { flows = slice_set state.flows number flow }
 
--- round-robin over so many flows: the turn of this one comes after that of this many others, from
+-- round-robin over `count` flows: the turn of this one comes after that of `others` others, from
 -- the flow that has its turn on
 abbrev pub ComesAfter : ℕ → ℕ → ℕ → ℕ → Type 0
 ComesAfter count turn others flow = (flow < count) × (others < count)

@@ -114,8 +114,8 @@ impl Queue {
     }
 
     /// Returns bytes at the front, in three slices each of which stands behind the one before: own
-    /// bytes, the run behind them and the own bytes behind that; or what is left of a run alone. The
-    /// first isn't empty if any is to be pushed.
+    /// bytes, the run behind them and what stands behind that, up to the next run; or what is left
+    /// of a run alone. The first isn't empty if any is to be pushed.
     pub fn front(&self) -> (&[u8], &[u8], &[u8])
         ensures front { StartsWith self.now (result.0.now ++ (result.1.now ++ result.2.now)) }
         ensures some { 0 < length self.now → 0 < length result.0.now }

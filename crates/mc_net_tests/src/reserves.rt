@@ -2,8 +2,8 @@
 use fair_places::FairPlaces;
 use std::alloc::{AllocError, Global};
 
-/// Takes as many of ten places as a holder may, with so many kept for each of two holders; then as
-/// many as the other may. Returns how many each has got.
+/// Takes as many of ten places as a holder may, with this many kept for each of two holders; then
+/// as many as the other may. Returns how many each has got.
 fn taken_by_both(alloc: Global, reserve: usize) -> Result<(u32, u32), AllocError> {
     if reserve > 5 {
         return Ok((0, 0));

@@ -152,7 +152,7 @@ pub record IsNextLog (settings : Configuration) (next : Next) : Type 0 where
 abbrev pub AreServedBy : List InTurn → Front → Type 0
 AreServedBy who front = AllZip HasBeenServedBy who front.event_loops.items
 
--- a worker has replayed all places of its log, and in its tables so many more changes can get
+-- a worker has replayed all places of its log, and in its tables this many more changes can get
 -- uniques
 abbrev pub CanBeFollowed : ℕ → Worker → Type 0
 CanBeFollowed places worker = HasReplayedAll worker × HaveRoom (tables_of worker) places

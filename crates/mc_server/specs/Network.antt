@@ -29,7 +29,7 @@ abbrev pub IsReady : List Listening → Outflow → Outflow → Type 0
 IsReady listening before after = PushesAll (ready_text listening) before after
 
 -- it was printed which listener is at which address, and then, when all had been served over at
--- most so many logs, how many places were used in total
+-- most this many logs, how many places were used in total
 abbrev pub IsServed : Configuration → ℕ → List Listening → Outflow → Outflow → Type 0
 IsServed settings most listening before after =
     (number : ℕ) × WereServed settings most number

@@ -2,8 +2,8 @@
 //!
 //! What they report is on a tape, which takes no memory: `pull_of` and `push_of` say what an answer
 //! of `read`, `write` and `flush` means, and that is put on the tape. That these answers are passed
-//! on, and that a write is flushed, is in the bodies of `pull` and `push`; the clauses `rest` and
-//! `written` tie their bytes to a stream that reports its own.
+//! on, and that a write is flushed, is in the bodies of `pull`, `push` and `push_at_once`; the
+//! clauses `rest` and `written` tie their bytes to a stream that reports its own.
 ghost use Rattle.std.specs.IoError.{error_kind};
 ghost use Rattle.std.specs.Io.{WritesAtMost};
 ghost use Rattle.std.specs.Io.KnownBytes.{Keeps, WriteAppends};
@@ -202,7 +202,8 @@ impl<W: WriteParts> WriteOutput<W> {
     }
 }
 
-/// Puts the first `count` bytes of two slices on the tape: what stands in each is a move of its own.
+/// Puts the first `count` bytes of two slices on the tape: what stands in each is a move of its
+/// own.
 fn note_both(count: usize, first: &[u8], second: &[u8], tape: &mut Tape)
     requires { count ≤ length (first.now ++ second.now) }
     ensures { IsPush (Push.Taken count) (first.now ++ second.now)
