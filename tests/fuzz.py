@@ -38,7 +38,7 @@ from generators import StreamGenerator, limit_lines, mutated, pieces
 from harness import repository
 from harness.client import Exchange, connect, exchange, reset
 from harness.results import Results
-from harness.servers import ADMIN, ENDLESS_WORKERS, PLACES_ABOVE, Server, endless
+from harness.servers import ADMIN, ENDLESS_WORKERS, METRICS, Server, endless
 from oracle import protocol
 from oracle.replies import NEVER_FULL, Replies
 from oracle.table import Table
@@ -404,20 +404,20 @@ def check_flat_over_logs(program, log_bytes):
 
 
 def check_closed_by_bytes(program, log_bytes):
-    """Logs are closed by their bytes before their places are taken: the places that were used are those of many logs. The client sets an item of
+    """Logs are closed by their bytes before their places are taken, and one place is used for each command. The client sets an item of
     1,000 bytes again and again, 20 times as many bytes as a log keeps, and waits for each reply: a worker looks at the bytes once it has taken
     what was there."""
     count = 20 * (log_bytes // 1_000 + 1)
     for workers in ENDLESS_WORKERS:
-        options = ["--workers", str(workers), *endless(log_bytes), "--connections", "1"]
+        options = [*METRICS, "--workers", str(workers), *endless(log_bytes), "--connections", "1"]
         with Server(program, options, {"a": LARGE}) as server:
             with server.client() as client:
                 replies = {client.line(b"set k 0 0 1000\r\n%s\r\n" % (b"k" * 1_000)) for _ in range(count)}
+                turn_overs = server.turn_overs()
             yield f"{workers} workers, sets over logs closed by bytes", None if replies == {"STORED"} else f"{replies}"
-            status, output, errors = server.wait()
-            places = int(output.split()[1]) if output.startswith(b"done ") else 0
-            is_closed = status == 0 and not errors and places > 10 * PLACES_ABOVE
-            yield f"{workers} workers, logs closed by bytes", None if is_closed else f"{status}, {output}, {errors}, after {count} sets"
+            yield f"{workers} workers, logs closed by bytes", None if 10 < turn_overs < count else f"{turn_overs} after {count} sets"
+            ended = server.wait()
+            yield f"{workers} workers, places of all logs", None if ended == (0, b"done %d\n" % count, b"") else f"{ended}, after {count} sets"
 
 
 def check_bytes_are_bounded(program):

@@ -10,7 +10,7 @@ answered when it was sent, so a client reads its own writes too.
 With `--generations` the logs have 64 places and follow one another without an end, below 1, 2 and 4 workers by turns, or always as many as
 `--workers` says; there are four tenants, each with an administrator and with a client whose connections are killed at any byte. One order
 explains the replies over all logs, and none is that the log is full. With `--log-bytes` the logs have 4,096 places, and are closed after this
-many bytes of commands, 4,000 for example; the number of places that the server has used at its end shows that they were.
+many bytes of commands, 4,000 for example; the server's metrics show that they were.
 
 `--self-test` tests the checker instead: histories made wrong on purpose must be refused, and right ones accepted. The last line is
 'N passed, M failed'.
@@ -32,7 +32,7 @@ from harness import repository
 from harness.client import connect, peer_socket, reset
 from harness.processes import SECONDS, sockets
 from harness.results import Results
-from harness.servers import ADMIN, ENDLESS_WORKERS, PLACES_ABOVE, Server, endless
+from harness.servers import ADMIN, ENDLESS_WORKERS, METRICS, Server, endless
 from linearizability_checker import Call
 from oracle import protocol
 from oracle.table import Table
@@ -257,34 +257,32 @@ def run_endless(program, seed, number, workers, log_bytes):
     workers = workers[number % len(workers)]
     tenants = tenants_of(chance, 4)
     alike = {name: chance.choice((2, 3, 4)) for name in tenants}
-    # All connections of tenants, of which a killed client has one for each epoch and one before.
-    connections = sum(count + 1 + EPOCHS for count in alike.values())
-    commands = 0
-    options = [*ADMIN, "--workers", str(workers), *endless(log_bytes), "--connections", str(connections)]
+    # All connections of tenants, of which a killed client has one for each epoch and one before, and one that asks nothing and keeps the
+    # server until its metrics are read.
+    connections = sum(count + 1 + EPOCHS for count in alike.values()) + 1
+    options = [*ADMIN, *METRICS, "--workers", str(workers), *endless(log_bytes), "--connections", str(connections)]
     with Server(program, options, tenants) as server:
+        idle = server.connect(tenants[0] if isinstance(tenants, list) else next(iter(tenants)))
         kinds = {
             name: [(Client, (server.ports[name],))] * alike[name]
             + [(Administrator, (server.ports["admin"], name)), (KilledClient, (server.ports[name], server.pid))]
             for name in tenants
         }
         for name, count, history in histories(kinds, seed):
-            commands += len(history)
             yield f"{workers} workers, one log after another, tenant {name}, {count} clients", Table(*tenants[name]), math.inf, history
-        check_end(server, f"run {seed}, {workers} workers", commands if log_bytes else None)
+        what = f"run {seed}, {workers} workers"
+        check(f"{what}: logs follow one another", server.turn_overs() > 0)
+        idle.close()
+        check_end(server, what)
 
 
-def check_end(server, what, commands):
-    """The server ends by itself once all clients are gone. Where it was to close logs by their bytes, the places that it has used are more
-    than the commands, by what was left of a log."""
+def check_end(server, what):
+    """The server ends by itself once all clients are gone."""
     try:
         ended = server.wait(SECONDS)
     except subprocess.TimeoutExpired:
         ended = "not at all"
-    is_done = ended[0] == 0 and ended[1].startswith(b"done ") and not ended[2]
-    check(f"{what}: the end", is_done, ended)
-    if is_done and commands is not None:
-        places = int(ended[1].split()[1])
-        check(f"{what}: no log was closed by its bytes: {commands} commands, {places} places", places - commands > PLACES_ABOVE // 2)
+    check(f"{what}: the end", ended[0] == 0 and ended[1].startswith(b"done ") and not ended[2], ended)
 
 
 def histories(kinds, seed):

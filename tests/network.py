@@ -33,7 +33,7 @@ import time
 from harness import preload, repository
 from harness.client import exchange, late_reply, reset
 from harness.results import Results
-from harness.servers import ADMIN, Server, free_port
+from harness.servers import ADMIN, METRICS, Server, free_port
 
 PROGRAM = sys.argv[1] if len(sys.argv) > 1 else repository.program("wfmc")
 SHORT = 4096
@@ -666,7 +666,7 @@ def check_logs_in_turn(workers, commands):
         check(f"four logs, and no more, {workers} workers", replies == b"STORED\r\n" + numbers + b"SERVER_ERROR log full\r\n" * (45 - commands))
         check("the same client after the last log is full", is_answered_again(idle))
         idle.close()
-        check("the length of all logs", server.wait() == (0, b"done 40\n", b""))
+        check("the length of all logs", server.wait() == (0, b"done %d\n" % commands, b""))
 
 
 def check_cuts_around_turn_overs():
@@ -689,18 +689,19 @@ def check_cuts_around_turn_overs():
 
 
 def check_logs_closed_by_bytes():
-    """100 items of 1,000 bytes, set one after another, over logs that keep 4,000: two logs of three are closed by them, and the only log isn't."""
-    for generations, least, most in (("3", 2_001, 2_098), ("1", 100, 100)):
+    """100 items of 1,000 bytes, set one after another, over logs that keep 4,000: two logs of three are closed by them, and the only log isn't.
+    One place is used for each."""
+    for generations in ("3", "1"):
         for workers in ("1", "4"):
             options = ["--workers", workers, "--places", "1000", "--generations", generations, "--log-bytes", "4000", "--connections", "1"]
-            with Server(PROGRAM, options, {"a": LARGE}) as server:
+            with Server(PROGRAM, [*METRICS, *options], {"a": LARGE}) as server:
                 what = f"{generations} logs that keep 4,000 bytes, {workers} workers"
                 with server.client() as client:
                     replies = {client.line(b"set k%02d 0 0 1000\r\n%s\r\n" % (number, b"k" * 1_000)) for number in range(100)}
+                    turn_overs = server.turn_overs()
                 check(f"{what}: all is stored", replies == {"STORED"}, replies)
-                status, output, errors = server.wait()
-                length = int(output.split()[1]) if output.startswith(b"done ") else 0
-                check(f"{what}: their length", status == 0 and not errors and least <= length <= most, output)
+                check(f"{what}: those before the last are closed", turn_overs == int(generations) - 1, turn_overs)
+                check(f"{what}: their length", server.wait() == (0, b"done 100\n", b""))
 
 
 def check_workers_and_places():

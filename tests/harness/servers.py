@@ -4,12 +4,14 @@ import contextlib
 import os
 import pathlib
 import pwd
+import re
 import resource
 import socket
 import subprocess
 import sys
 import tempfile
 import time
+import urllib.request
 
 from .client import Client, connect
 from .processes import SECONDS, Process
@@ -18,6 +20,9 @@ LARGE = (1_048_576, 1_073_741_824)
 
 # The options for an administrators' listener, whose port goes by the name "admin" then, as if it were a tenant's.
 ADMIN = ("--admin", "127.0.0.1:0")
+
+# The options for a listener whose metrics `Server.turn_overs` reads.
+METRICS = ("--metrics", "127.0.0.1:0")
 
 # The numbers of workers over logs that follow one another.
 ENDLESS_WORKERS = (1, 2, 4)
@@ -78,6 +83,11 @@ class Server(Process):
         """Waits for a first answer."""
         with self.client(tenant) as client:
             client.line(b"version\r\n")
+
+    def turn_overs(self):
+        """How many turn overs there were, by its metrics."""
+        with urllib.request.urlopen(f"http://127.0.0.1:{self.ports['metrics']}/metrics", timeout=SECONDS) as answer:
+            return int(re.search(rb"^wfmc_turn_over_seconds_count ([0-9]+)$", answer.read(), re.M)[1])
 
     def catch_up(self):
         """Has each worker replay the whole log, as it does with its next command."""

@@ -14,7 +14,7 @@ use crate::arrival::{Admission, Arrival};
 use crate::closing::Closing;
 use crate::connection::Connection;
 use crate::connections::{Connections, is_among};
-use crate::socket::{SocketInput, SocketOutput};
+use crate::socket::{SocketInput, SocketOutput, Spends};
 use mc_conn::{Conn, PULL_BYTES, Role, State};
 use mc_counters::Tally;
 use mc_model::Fault;
@@ -97,9 +97,9 @@ fn turn_once<I: Input, O: Output, G: Gate>(
 }
 
 /// Makes turns until nothing is left to do, `TURNS` were made, `REQUESTS_OF_A_READ` were answered,
-/// a command is left to the next log, or a fault has ended the connection. Returns the connection's
-/// state afterwards.
-fn turns<I: Input, O: Output, G: Gate>(
+/// the output is spent, a command is left to the next log, or a fault has ended the connection.
+/// Returns the connection's state afterwards.
+fn turns<I: Input, O: Output + Spends, G: Gate>(
     until_done: bool,
     conn: &mut Conn,
     worker: &mut Worker<'_>,
@@ -130,7 +130,7 @@ fn turns<I: Input, O: Output, G: Gate>(
     for _ in 0..TURNS {
         match turn_once(until_done, conn, worker, input, output, gate, buffer, tally) {
             Ok(State::Busy) => {
-                if conn.answered() >= last {
+                if conn.answered() >= last || output.is_spent() {
                     return State::Busy;
                 }
             }

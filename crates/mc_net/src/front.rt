@@ -172,8 +172,7 @@ impl Front {
     /// ended: that is `Done`. Unless the log is the last one, serving also ends, as `Full`, once a
     /// worker finds that its log is closing, or that its commands keep as many bytes as a log's
     /// may: then commands wait and are first on the next log, and the connections and the streams
-    /// that come stay with the front. Returns the workers in their order; places may be left, which
-    /// `Worker::fill` fills.
+    /// that come stay with the front. Returns the workers in their order; places may be left.
     ///
     /// When every worker's loop has begun, and before anything is accepted, `begin` is called,
     /// once, with the state. Returns `Memory` if a loop doesn't begin within about ten seconds, for

@@ -2,7 +2,7 @@
 ghost use Rattle.std.specs.Prelude.{◌≡◌, ℕ, All, IfOk, IsTrue, Some, length, slice_get, vec_len};
 ghost use Rattle.mc_model.specs.Replay.{HaveRoom};
 ghost use Rattle.uc_log.specs.Passes.{IsUnusedPass};
-ghost use Rattle.uc_worker.specs.Worker.{HasReplayedAll, tables_of};
+ghost use Rattle.uc_worker.specs.Worker.{history_of, tables_of};
 
 use crate::clients::{Act, first_failure};
 use crate::house::{Counting, House, open_workers};
@@ -17,21 +17,19 @@ use std::sync::Wait;
 use std::test::Fail;
 use std::thread::{Threads, join};
 use uc_log::{Log, Pass};
-use uc_worker::{Base, Next, Open, Worker, fill_all, turn_over};
+use uc_worker::{Base, Next, Open, Worker, catch_up_all, turn_over};
 
-/// Returns whether each worker has replayed all places of its log, and so many more changes can get
-/// uniques in its tables.
-fn can_be_followed(workers: &[Worker<'_>], places: u64) -> bool
+/// Returns whether each worker has replayed so many places of its log, and so many more changes can
+/// get uniques in its tables.
+fn can_be_followed(workers: &[Worker<'_>], used: usize, places: u64) -> bool
     ensures { IsTrue result →
-        All (λ worker. HasReplayedAll worker × HaveRoom (tables_of worker) places) workers.now }
+        All (λ worker. (length (history_of worker) ≡ used) × HaveRoom (tables_of worker) places)
+        workers.now }
 {
-    workers
-        .iter()
-        .all(|worker| worker.is_done() && worker.has_room(places))
+    workers.iter().all(|worker| worker.history().len() == used && worker.has_room(places))
 }
 
-/// Fills the places that are left in a log whose workers have come back, closes it, and opens the
-/// one that follows it.
+/// Closes a log whose workers have come back, and opens the one that follows it.
 fn next_log(alloc: Global, log: &Log, workers: &mut [Worker<'_>]) -> Result<Next, Fault>
     requires { All (λ worker. worker.log.now ≡ log.now) workers.old }
     ensures settings { IfOk result (λ next. next.log.settings ≡ log.now.settings) }
@@ -42,11 +40,12 @@ fn next_log(alloc: Global, log: &Log, workers: &mut [Worker<'_>]) -> Result<Next
     ensures room { IfOk result
         (λ next. HaveRoom next.base.tables.items next.log.settings.places) }
 {
-    if workers.is_empty() {
+    catch_up_all(workers)?;
+    let Some(first) = workers.first() else {
         return Err(Fault::BadEvent);
-    }
-    fill_all(workers)?;
-    if !can_be_followed(workers, log.settings().places()) {
+    };
+    let used = first.history().len();
+    if !can_be_followed(workers, used, log.settings().places()) {
         return Err(Fault::BadEvent);
     }
     turn_over(alloc, workers, log.settings())

@@ -1,5 +1,5 @@
 -- A log as it is opened for a client, over the table after the commands of earlier logs.
-use Rattle.std.proofs.Common.{◌≡◌, ℕ, Result, Ok, Err, IfOk, IfSome, ◌+◌, ◌*◌, ◌≤◌, zero, suc, All, Some, List, [], ◌∷◌, ◌++◌, length, slice_get, sym, ap, ◌∙◌, subst, inl, arith, append_assoc, append-nil}
+use Rattle.std.proofs.Common.{refl, ◌≡◌, ℕ, Result, Ok, Err, IfOk, IfSome, ◌+◌, ◌*◌, ◌≤◌, zero, suc, All, Some, List, [], ◌∷◌, ◌++◌, length, slice_get, sym, ap, ◌∙◌, subst, inl, arith, append_assoc, append-nil}
 use Rattle.std.specs.Result.{result_ok}
 use Rattle.mc_model.specs.declared.fault.Fault.{Fault}
 use Rattle.mc_model.specs.declared.fault.Fault.TheVariants.{Memory}
@@ -8,6 +8,7 @@ use Rattle.mc_model.specs.declared.reply.TheConstants.WireNo.{OUT_OF_MEMORY}
 use Rattle.mc_model.specs.declared.request.Request.{Request}
 use Rattle.mc_model.specs.declared.settings.Limits.{Limits}
 use Rattle.mc_model.specs.History.{state_after}
+use Rattle.mc_model.specs.declared.shown.LogSize.{LogSize}
 use Rattle.mc_model.specs.Replay.{HaveRoom, empty_tables}
 use Rattle.mc_model.specs.Settings.{Configuration}
 use Rattle.model_lemmas.proofs.Histories.{state_after-none}
@@ -37,7 +38,7 @@ use Rattle.uc_places.specs.declared.view.View.{View}
 use Rattle.uc_worker.specs.declared.turning_over.Next.{Next}
 use Rattle.uc_worker.specs.declared.worker.Worker.{Worker}
 use Rattle.uc_worker.specs.TurningOver.{AllCanTurnOver, CanTurnOver}
-use Rattle.uc_worker.specs.Worker.{HasReplayedAll, announced_of, history_of, openings_of, seat_of, tables_of}
+use Rattle.uc_worker.specs.Worker.{HasReplayedAll, IsUpToDate, announced_of, history_of, openings_of, seat_of, tables_of}
 
 -- a tenant's connection fits a log for one tenant
 pub fits : (role : Role) (worker : Worker) (log : Log) → role ≡ Tenant 0 → worker.log.now ≡ log → IsForOne log → FitsLog role worker
@@ -147,13 +148,20 @@ pub can_turn_over : (log : Log) (settings : Configuration) (worker : Worker) →
     AllCanTurnOver settings (worker ∷ [])
 can_turn_over log settings worker same of done room = record {
   log = log;
+  replayed = length (history_of worker);
   tenants = ap (λ (it : Configuration). length it.tenants) (sym same);
   some = omega arith;
   each = alone;
 }
   where
-    alone : All (CanTurnOver log settings) (worker ∷ [])
-    alone zero other below = record { of = of; done = done; room = room }
+    places : (seat_of worker).size.places ≡ worker.log.now.settings.places
+    places = ap (λ (size : LogSize). size.places) worker.of.1
+
+    up_to_date : IsUpToDate worker
+    up_to_date = omega (arith, worker.short, worker.pass.desk.law.few, places, done)
+
+    alone : All (CanTurnOver log (length (history_of worker)) settings) (worker ∷ [])
+    alone zero other below = record { of = of; up_to_date = (up_to_date, refl); room = room }
     alone (suc number) other below = absurd (omega (arith, below))
 
 -- the next log is for one too

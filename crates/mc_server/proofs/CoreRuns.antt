@@ -6,7 +6,7 @@ use Rattle.mc_model.specs.History.{answer_from}
 use Rattle.mc_model.specs.Log.{own}
 use Rattle.mc_model.specs.Settings.{Configuration}
 use Rattle.mc_model.specs.State.{TableState, empty_table}
-use Rattle.mc_server.proofs.LogRuns.{all_gone_on, workers_back}
+use Rattle.mc_server.proofs.LogRuns.{all_on, workers_back}
 use Rattle.mc_server.proofs.NetworkRuns.{are_workers}
 use Rattle.mc_server.specs.CoreRuns.{ClosedLogsAnswerOwn, ClosedLogsAreCoreRuns, IsOneCoreRun, LastLogsAreCoreRuns, with_tenant}
 use Rattle.mc_server.specs.Crew.{AreWorkersOf, number_of}
@@ -43,9 +43,9 @@ one_core_run law settings log tables workers all run some limits =
     (omega (arith, long, tenants)) (omega (arith, long)) (omega (arith, all.many, some))
 
 pub closed_logs : AllDoOneCoreRun → ClosedLogsAreCoreRuns
-closed_logs law settings log tables after begun served some opened onward closes =
+closed_logs law settings log used tables after begun served some opened onward closes =
     one_core_run law settings log tables closes.closed
-    (are_workers settings log served closes.closed (all_gone_on served closes.closed closes.later) (are_workers settings log begun served onward opened.all)) closes.run some
+    (are_workers settings log served closes.closed (all_on served closes.closed closes.later) (are_workers settings log begun served onward opened.all)) closes.run some
 
 pub last_logs : AllDoOneCoreRun → LastLogsAreCoreRuns
 last_logs law settings most number some were = one_core_run law settings were.serves.log were.serves.tables were.served
@@ -76,9 +76,9 @@ in_front (x ∷ list) more zero inside = refl
 in_front (x ∷ list) more (suc place) inside = in_front list more place (omega (arith, inside))
 
 pub own_answers : OwnHaveTheirReplies → ClosedLogsAnswerOwn
-own_answers law settings log tables after begun served some opened onward closes limits one number place worker seen entry at here mine is apart =
+own_answers law settings log used tables after begun served some opened onward closes limits one number place worker seen entry at here mine is apart =
     let closed = closes.closed in
-    let all = are_workers settings log served closed (all_gone_on served closed closes.later) (are_workers settings log begun served onward opened.all) in
+    let all = are_workers settings log served closed (all_on served closed closes.later) (are_workers settings log begun served onward opened.all) in
     let each = table_for_each settings log tables begun some opened in
     let long = length-append settings.tenants (limits ∷ []) in
     let wide = length-append tables (empty_table limits ∷ []) in

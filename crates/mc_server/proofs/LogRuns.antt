@@ -1,4 +1,4 @@
--- Logs one after another: workers that fill and close one, and what those come to that have
+-- Logs one after another: workers that close one, and what those come to that have
 -- served on all of them.
 use Rattle.std.proofs.Common.{◌≡◌, ◌∙◌, ◌⊎◌, ◌<◌, ◌≤◌, ℕ, ◌+◌, ◌-◌, ◌^◌, min, zero, suc, Bool, true, false, List, [], ◌∷◌, ◌++◌, Err, IfOk, Ok, Result, take, Some, All, length, map, slice_get, slice_index_or, ap, arith, refl, sym, subst, inl, inr, ⊎_elim}
 use Rattle.std.proofs.Math.Nat.{min-eq_left}
@@ -27,35 +27,33 @@ use Rattle.uc_worker.specs.Cited.{entries}
 use Rattle.uc_log.specs.declared.log.Log.{Log}
 use Rattle.uc_worker.specs.Cited.{Sighting}
 use Rattle.uc_worker.specs.AllWorkers.{AreOnOneRun}
-use Rattle.uc_worker.specs.Going.{CatchesUp, Continues, FillsUp}
-use Rattle.uc_worker.specs.TurningOver.{CanTurnOver, HaveOneHistory, IsAsBefore}
-use Rattle.uc_worker.specs.Worker.{HasReplayedAll, history_of, openings_of, seat_of, tables_of}
+use Rattle.uc_worker.specs.Going.{CatchesUp, Continues}
+use Rattle.uc_worker.specs.TurningOver.{CanTurnOver, HaveOneHistory, IsAsBefore, IsUpToDateAt}
+use Rattle.uc_worker.specs.Worker.{IsUpToDate, history_of, openings_of, seat_of, tables_of}
 use Rattle.uc_worker.specs.declared.worker.Worker.{Worker}
 
--- the laws of filling places
-abbrev pub FillsQuietly : Type 0
-FillsQuietly = (old new : Worker) → CatchesUp old new → FillsUp old new
+-- the law of catching up again and again
+abbrev pub CatchesUpThrough : Type 0
+CatchesUpThrough = (first second third : Worker) → CatchesUp first second → CatchesUp second third → CatchesUp first third
 
-abbrev pub FillsOn : Type 0
-FillsOn = (first second third : Worker) → FillsUp first second → FillsUp second third → FillsUp first third
+-- workers that are as they were before have announced nothing more
+pub all_caught_up : CatchesUpThrough → (old now new : List Worker) → AllZip CatchesUp old now → AllZip IsAsBefore now new → AllZip CatchesUp old new
+all_caught_up through [] [] [] one two = tt
+all_caught_up through [] [] (z ∷ zs) one two = absurd two
+all_caught_up through [] (y ∷ ys) new one two = absurd one
+all_caught_up through (x ∷ xs) [] new one two = absurd one
+all_caught_up through (x ∷ xs) (y ∷ ys) [] one two = absurd two
+all_caught_up through (x ∷ xs) (y ∷ ys) (z ∷ zs) one two = (through x y z one.0 two.0.caught_up, all_caught_up through xs ys zs one.1 two.1)
 
--- workers that are as they were before have filled nothing more
-pub all_filled : FillsQuietly → FillsOn → (old now new : List Worker) → AllZip FillsUp old now → AllZip IsAsBefore now new → AllZip FillsUp old new
-all_filled quietly fills [] [] [] one two = tt
-all_filled quietly fills [] [] (z ∷ zs) one two = absurd two
-all_filled quietly fills [] (y ∷ ys) new one two = absurd one
-all_filled quietly fills (x ∷ xs) [] new one two = absurd one
-all_filled quietly fills (x ∷ xs) (y ∷ ys) [] one two = absurd two
-all_filled quietly fills (x ∷ xs) (y ∷ ys) (z ∷ zs) one two = (fills x y z one.0 (quietly y z two.0.caught_up), all_filled quietly fills xs ys zs one.1 two.1)
-
-all_done : (log : Log) (settings : Configuration) (now new : List Worker) → All (CanTurnOver log settings) now → AllZip IsAsBefore now new → All HasReplayedAll new
-all_done log settings [] [] can same = All-nil HasReplayedAll
-all_done log settings [] (z ∷ zs) can same = absurd same
-all_done log settings (y ∷ ys) [] can same = absurd same
-all_done log settings (y ∷ ys) (z ∷ zs) can same =
-    let done = (All-head (CanTurnOver log settings) y ys can).done in
-    All-cons HasReplayedAll z zs (ap length same.0.history ∙ done ∙ ap (λ log. log.now.settings.places) (sym same.0.log))
-    (all_done log settings ys zs (All-tail (CanTurnOver log settings) y ys can) same.1)
+all_at : (log : Log) (used : ℕ) (settings : Configuration) (now new : List Worker) → All (CanTurnOver log used settings) now → AllZip IsAsBefore now new → All (IsUpToDateAt used) new
+all_at log used settings [] [] can same = All-nil (IsUpToDateAt used)
+all_at log used settings [] (z ∷ zs) can same = absurd same
+all_at log used settings (y ∷ ys) [] can same = absurd same
+all_at log used settings (y ∷ ys) (z ∷ zs) can same =
+    let at = (All-head (CanTurnOver log used settings) y ys can).up_to_date in
+    let long = ap length same.0.history in
+    All-cons (IsUpToDateAt used) z zs (long ∙ at.0 ∙ sym (ap length same.0.learned), long ∙ at.1)
+    (all_at log used settings ys zs (All-tail (CanTurnOver log used settings) y ys can) same.1)
 
 first_stands : (now new : List Worker) (tables : List TableState) → AllZip IsAsBefore now new →
     ((first : Worker) → slice_get now 0 ≡ Some first → EachStands (openings_of first) (entries (history_of first)) tables) →
@@ -69,33 +67,43 @@ first_stands (y ∷ ys) (z ∷ zs) tables same stands first at =
     (subst (λ openings. EachStands openings (entries (history_of z)) tables) (sym same.0.openings)
     (subst (λ (history : List Sighting). EachStands (openings_of y) (entries history) tables) (sym same.0.history) (stands y refl)))
 
--- workers that have filled all places and turned over have closed their log
-pub closes : FillsQuietly → FillsOn → (log : Log) (settings : Configuration) (old now new : List Worker) (tables : List TableState) → AllZip FillsUp old now → All (CanTurnOver log settings) now → AllZip IsAsBefore now new →
-    HaveOneHistory new → AreOnOneRun new → ((first : Worker) → slice_get now 0 ≡ Some first → EachStands (openings_of first) (entries (history_of first)) tables) → Closes old tables
-closes quietly fills log settings old now new tables later can same one run stands = record {
+-- workers that have caught up and turned over have closed their log
+pub closes : CatchesUpThrough → (log : Log) (used : ℕ) (settings : Configuration) (old now new : List Worker) (tables : List TableState) → AllZip CatchesUp old now →
+    All (CanTurnOver log used settings) now → AllZip IsAsBefore now new →
+    HaveOneHistory new → AreOnOneRun new → ((first : Worker) → slice_get now 0 ≡ Some first → EachStands (openings_of first) (entries (history_of first)) tables) → Closes old used tables
+closes through log used settings old now new tables later can same one run stands = record {
   closed = new;
-  later = all_filled quietly fills old now new later same;
-  done = all_done log settings now new can same;
+  later = all_caught_up through old now new later same;
+  up_to_date = all_at log used settings now new can same;
   same = one;
   run = run;
   stands = first_stands now new tables same stands;
 }
 
 -- workers of a log that can be followed can turn over
-pub can_all : (log : Log) (settings : Configuration) (workers : List Worker) (places : ℕ) → places ≡ settings.places → All (λ (worker : Worker). worker.log.now ≡ log) workers →
-    All (CanBeFollowed places) workers → All (CanTurnOver log settings) workers
-can_all log settings workers places is of can = λ i d inside. record {
+pub can_all : (log : Log) (used : ℕ) (settings : Configuration) (workers : List Worker) (places : ℕ) → places ≡ settings.places → All (λ (worker : Worker). worker.log.now ≡ log) workers →
+    All IsUpToDate workers → All (CanBeFollowed used places) workers → All (CanTurnOver log used settings) workers
+can_all log used settings workers places is of all can = λ i d inside. record {
   of = of i d inside;
-  done = (can i d inside).0;
+  up_to_date = (all i d inside, (can i d inside).0);
   room = subst (HaveRoom (tables_of (slice_index_or workers i d))) is (can i d inside).1;
 }
 
--- workers that have filled places have gone on
-pub all_gone_on : (old new : List Worker) → AllZip FillsUp old new → AllZip Continues old new
-all_gone_on [] [] all = tt
-all_gone_on [] (y ∷ ys) all = absurd all
-all_gone_on (x ∷ xs) [] all = absurd all
-all_gone_on (x ∷ xs) (y ∷ ys) all = (all.0.continues, all_gone_on xs ys all.1)
+-- workers that have caught up have gone on
+pub all_on : (old new : List Worker) → AllZip CatchesUp old new → AllZip Continues old new
+all_on [] [] all = tt
+all_on [] (y ∷ ys) all = absurd all
+all_on (x ∷ xs) [] all = absurd all
+all_on (x ∷ xs) (y ∷ ys) all = (all.0.continues, all_on xs ys all.1)
+
+-- the first worker has replayed no more places than its log has
+pub few_used : (log : Log) (workers : List Worker) → All (λ (worker : Worker). worker.log.now ≡ log) workers → (first : Worker) → slice_get workers 0 ≡ Some first →
+    length (history_of first) ≤ log.settings.places
+few_used log [] of first at = absurd (none-some first at)
+few_used log (worker ∷ workers) of first at = subst (λ (it : Worker). length (history_of it) ≤ log.settings.places) (same_Some worker first at) (omega (arith, worker.short, worker.pass.desk.law.few, size))
+  where
+    size : (seat_of worker).size.places ≡ log.settings.places
+    size = ap (λ (size : LogSize). size.places) worker.of.1 ∙ ap (λ (log : Log). log.settings.places) (of 0 worker (omega arith))
 
 -- what comes before the rest
 pub taken_whole : {A : Type 0} (n : ℕ) (all rest : List A) → n ≡ length all → take n (all ++ rest) ≡ all
@@ -187,7 +195,7 @@ workers_back settings logs places all served serves =
     (λ one. are_workers settings serves.log serves.begun served one.0 first)
     (λ (two : ServesInTwo serves.who serves.begun served all).
     are_workers settings serves.log two.again served two.second
-    (are_workers settings serves.log two.full two.again (all_gone_on two.full two.again two.between)
+    (are_workers settings serves.log two.full two.again (all_on two.full two.again two.between)
     (are_workers settings serves.log serves.begun two.full two.first first)))
     serves.parts
 

@@ -27,12 +27,12 @@ IsOneCoreRun settings tables workers = (limits : Limits) →
     DoOneCoreRun (with_tenant limits settings) (length settings.tenants)
     (tables ++ empty_table limits ∷ []) workers
 
--- it is so of the workers of each log that is closed, once they have replayed all its places
+-- it is so of the workers of each log that is closed, once they have one history
 abbrev pub ClosedLogsAreCoreRuns : Type 0
-ClosedLogsAreCoreRuns = (settings : Configuration) (log : Log) (tables after : List TableState)
-    (begun served : List Worker) → 0 < settings.workers →
+ClosedLogsAreCoreRuns = (settings : Configuration) (log : Log) (used : ℕ)
+    (tables after : List TableState) (begun served : List Worker) → 0 < settings.workers →
     AreOpenedOver settings log tables begun → AllZip Continues begun served →
-    (closes : Closes served after) → IsOneCoreRun settings tables closes.closed
+    (closes : Closes served used after) → IsOneCoreRun settings tables closes.closed
 
 -- and of those of the last log, as they come back
 abbrev pub LastLogsAreCoreRuns : Type 0
@@ -43,10 +43,10 @@ LastLogsAreCoreRuns = (settings : Configuration) (most number : ℕ) →
 -- The run of a closed log's workers answers their own commands, with the replies that follow from
 -- their histories over the tables that the log was opened over.
 abbrev pub ClosedLogsAnswerOwn : Type 0
-ClosedLogsAnswerOwn = (settings : Configuration) (log : Log) (tables after : List TableState)
-    (begun served : List Worker) → 0 < settings.workers →
+ClosedLogsAnswerOwn = (settings : Configuration) (log : Log) (used : ℕ)
+    (tables after : List TableState) (begun served : List Worker) → 0 < settings.workers →
     AreOpenedOver settings log tables begun → AllZip Continues begun served →
-    (closes : Closes served after) (limits : Limits)
+    (closes : Closes served used after) (limits : Limits)
     (one : DoOneCoreRun (with_tenant limits settings) (length settings.tenants)
     (tables ++ empty_table limits ∷ []) closes.closed) →
     AnswersOwn (length settings.tenants) tables closes.closed one.core.given

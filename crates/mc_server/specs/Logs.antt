@@ -2,7 +2,7 @@
 -- (Wait-Free Synchronization, TOPLAS 1991) has one log without an end; that it is cut into logs of
 -- a fixed number of places is this project's profile.
 use Rattle.std.specs.List.{AllZip}
-use Rattle.std.specs.Prelude.{◌≡◌, ◌⊎◌, ◌<◌, ⊤, ℕ, ◌+◌, Bool, false, List, [], All, MatchResult, Option, None, Result, Some, length, slice_get, vec_len}
+use Rattle.std.specs.Prelude.{◌≡◌, ◌⊎◌, ◌<◌, ◌≤◌, ⊤, ℕ, ◌+◌, Bool, false, List, [], All, MatchResult, Option, None, Result, Some, length, slice_get, vec_len}
 use Rattle.mc_connections.specs.Asking.{HaveBeenAsked}
 use Rattle.mc_connections.specs.InTurn.{InTurn, nobody}
 use Rattle.mc_connections.specs.Life.{WasAnswered}
@@ -22,9 +22,9 @@ use Rattle.uc_log.specs.declared.log.Log.{Log}
 use Rattle.uc_log.specs.declared.pass.Pass.{Pass}
 use Rattle.uc_log.specs.Passes.{IsNew, IsUnusedPass, seat}
 use Rattle.uc_worker.specs.AllWorkers.{AreOnOneRun}
-use Rattle.uc_worker.specs.Going.{Continues, FillsUp}
-use Rattle.uc_worker.specs.TurningOver.{HaveOneHistory}
-use Rattle.uc_worker.specs.Worker.{HasReplayedAll, history_of, openings_of, seat_of, tables_of}
+use Rattle.uc_worker.specs.Going.{CatchesUp, Continues}
+use Rattle.uc_worker.specs.TurningOver.{HaveOneHistory, IsUpToDateAt}
+use Rattle.uc_worker.specs.Worker.{history_of, openings_of, seat_of, tables_of}
 use Rattle.uc_worker.specs.declared.turning_over.Base.{Base}
 use Rattle.uc_worker.specs.declared.turning_over.Next.{Next}
 use Rattle.uc_worker.specs.declared.worker.Worker.{Worker}
@@ -55,43 +55,42 @@ OpensOver log tables pass result = MatchResult result
     × (openings_of worker ≡ tables))
     (λ fault. fault ≡ Memory)
 
--- A log is closed: its workers, later on, have replayed all its places and have one history. All
--- that they have announced meanwhile are no-ops, which fill the places that were left. So each
--- command that one of them has answered stands in it; one run of the log, from its opening, has all
--- that they have done; and these tables are the ones that the log was opened over, each after its
--- tenant's own commands of that whole log.
-pub record Closes (workers : List Worker) (tables : List TableState) : Type 0 where
+-- A log is closed: its workers, later on, have announced nothing more, and have one history, of
+-- this many places, in which all stands that they have learned. So each command that one of them
+-- has answered stands in it; one run of the log, from its opening, has all that they have done; and
+-- these tables are the ones that the log was opened over, each after its tenant's own commands in
+-- that history.
+pub record Closes (workers : List Worker) (used : ℕ) (tables : List TableState) : Type 0 where
   pub closed : List Worker
-  pub later : AllZip FillsUp workers closed
-  pub done : All HasReplayedAll closed
+  pub later : AllZip CatchesUp workers closed
+  pub up_to_date : All (IsUpToDateAt used) closed
   pub same : HaveOneHistory closed
   pub run : AreOnOneRun closed
   pub stands : (first : Worker) → slice_get closed 0 ≡ Some first →
       EachStands (openings_of first) (entries (history_of first)) tables
 
--- Logs with these settings were served one after another, and each is closed: so many logs, with so
--- many places in total. These workers have served at the event loops, log after log; the first log
--- began with empty tables, and each later one with those that the one before it has left. The next
--- one is to begin with these.
+-- Logs with these settings were served one after another, and each is closed: so many logs, of
+-- which so many places were used in total. These workers have served at the event loops, log after
+-- log; the first log began with empty tables, and each later one with those that the one before it
+-- has left. The next one is to begin with these.
 pub data LogsWere (settings : Configuration) : ℕ → ℕ → List InTurn → List TableState →
     Type 0 where
   no_log_yet : (who : List InTurn) → All (λ (one : InTurn). one ≡ nobody) who →
       LogsWere settings 0 0 who (empty_tables settings.tenants)
-  one_more_log : (logs places : ℕ) (who : List InTurn) (tables after : List TableState)
+  one_more_log : (logs places used : ℕ) (who : List InTurn) (tables after : List TableState)
       (log : Log) (begun served : List Worker) → LogsWere settings logs places who tables →
       AreOpenedOver settings log tables begun → AllZip Continues begun served →
-      Closes served after →
-      LogsWere settings (logs + 1) (places + settings.places)
-      (each_followed_by who begun served) after
+      Closes served used after →
+      LogsWere settings (logs + 1) (places + used) (each_followed_by who begun served) after
 
--- Workers served on one log in two parts: after its first part they filled places that were left,
--- and as no log could follow, they went on with it.
+-- Workers served on one log in two parts: after its first part they caught up, and as no log could
+-- follow, they went on with it.
 pub record ServesInTwo (who : List InTurn) (begun served : List Worker)
     (all : List InTurn) : Type 0 where
   pub full : List Worker
   pub again : List Worker
   pub first : AllZip Continues begun full
-  pub between : AllZip FillsUp full again
+  pub between : AllZip CatchesUp full again
   pub second : AllZip Continues again served
   pub in_turn : all ≡ each_followed_by (each_followed_by who begun full) again served
 
@@ -115,8 +114,8 @@ pub record IsAnsweredBy (who : InTurn) (ended : List Connection) : Type 0 where
   pub asked : HaveBeenAsked who.begun who.served ended
 
 -- Tenants were served over at most so many logs with these settings, one after another (0: without
--- an end), and this many places were used in total: all of the earlier logs, and those of the last
--- one, whose workers have met, and whose run has all that they have done while they served.
+-- an end), and this many places were used in total: those of the earlier logs, and those of the
+-- last one, whose workers have met, and whose run has all that they have done while they served.
 pub record WereServed (settings : Configuration) (most number : ℕ) : Type 0 where
   pub logs : ℕ
   pub places : ℕ
@@ -152,10 +151,11 @@ pub record IsNextLog (settings : Configuration) (next : Next) : Type 0 where
 abbrev pub AreServedBy : List InTurn → Front → Type 0
 AreServedBy who front = AllZip HasBeenServedBy who front.event_loops.items
 
--- a worker has replayed all places of its log, and in its tables this many more changes can get
+-- a worker has replayed so many places of its log, and in its tables this many more changes can get
 -- uniques
-abbrev pub CanBeFollowed : ℕ → Worker → Type 0
-CanBeFollowed places worker = HasReplayedAll worker × HaveRoom (tables_of worker) places
+abbrev pub CanBeFollowed : ℕ → ℕ → Worker → Type 0
+CanBeFollowed used places worker =
+    (length (history_of worker) ≡ used) × HaveRoom (tables_of worker) places
 
 -- the last log was served until no connection was left, one run of it has all that its workers have
 -- done, and they have met: this many places of it were used
@@ -169,17 +169,18 @@ pub record EndsThere (settings : Configuration) (logs places last : ℕ) (front 
   pub by : AreServedBy all front
   pub over : All IsEmptyLoop front.event_loops.items
 
--- the log is closed, and is followed by the next one
-pub record GoesOnWith (settings : Configuration) (logs places : ℕ) (next : Next)
+-- the log is closed after so many places, and is followed by the next one
+pub record GoesOnWith (settings : Configuration) (logs places used : ℕ) (next : Next)
     (front : Front) : Type 0 where
   pub fits : IsNextLog settings next
+  pub few : used ≤ settings.places
   pub who : List InTurn
-  pub were : LogsWere settings (logs + 1) (places + settings.places) who next.base.tables.items
+  pub were : LogsWere settings (logs + 1) (places + used) who next.base.tables.items
   pub by : AreServedBy who front
 
 -- what serving one more log has come to, after these; no log follows the last one
 abbrev pub ServesTo : Configuration → Bool → ℕ → ℕ → Front → Served → Type 0
 ServesTo settings is_last logs places front (Done last) =
     EndsThere settings logs places last front
-ServesTo settings is_last logs places front (Full next) =
-    (is_last ≡ false) × GoesOnWith settings logs places next front
+ServesTo settings is_last logs places front (Full used next) =
+    (is_last ≡ false) × GoesOnWith settings logs places used next front

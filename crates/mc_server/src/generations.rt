@@ -1,5 +1,4 @@
-//! Serving logs one after another: a full log is closed, and the next one is opened over its
-//! tables.
+//! Serving logs one after another: a log is closed, and the next one is opened over its tables.
 ghost use Rattle.std.specs.List.{AllZip};
 ghost use Rattle.std.specs.Prelude.{◌≡◌, ◌↔◌, ◌⊎◌, ◌<◌, ◌≤◌, ⊤, All, true, false, ℕ, IfErr, IfOk, IfSome, IsTrue, List, MatchResult, length, slice_get, Some};
 ghost use Rattle.mc_connections.specs.InTurn.{InTurn};
@@ -12,7 +11,7 @@ ghost use Rattle.mc_server.specs.Logs.{AreOpenedOver, AreServedBy, CanBeFollowed
 ghost use Rattle.mc_server.specs.declared.generations.TheConstants.{MOST_PLACES};
 ghost use Rattle.uc_log.specs.Passes.{IsNew, IsUnusedPass};
 ghost use Rattle.uc_worker.specs.AllWorkers.{AreOnOneRun};
-ghost use Rattle.uc_worker.specs.Going.{Continues, FillsUp};
+ghost use Rattle.uc_worker.specs.Going.{CatchesUp, Continues};
 
 use crate::crew::{meet_all, open_workers};
 use crate::scraping::LogWatch;
@@ -23,15 +22,15 @@ use std::sync::Wait;
 use std::thread::Threads;
 use std::time::Clock;
 use uc_log::{Log, Pass};
-use uc_worker::{Base, Hashing, Next, Open, Worker, fill_all, turn_over};
+use uc_worker::{Base, Hashing, Next, Open, Worker, catch_up_all, turn_over};
 
 /// What serving a log has come to.
 #[derive(Drop)]
 pub(crate) enum Served {
     /// Every connection has ended, and this many places of the log were used.
     Done(usize),
-    /// The log is closed, and this one follows it.
-    Full(Next),
+    /// The log is closed, of which this many places were used, and this one follows it.
+    Full(usize, Next),
 }
 
 /// What a closed log leaves: itself, and the tables that it was opened over, unless they were
@@ -57,35 +56,40 @@ impl Begin<Option<Closed>> for FreeClosed {
     }
 }
 
-/// Returns whether each worker has replayed all places of its log, and so many more changes can get
-/// uniques in its tables.
-fn can_be_followed(workers: &[Worker<'_>], places: u64) -> bool
-    ensures { IsTrue result ↔ All (CanBeFollowed places) workers.now }
+/// Returns whether each worker has replayed so many places of its log, and so many more changes can
+/// get uniques in its tables.
+fn can_be_followed(workers: &[Worker<'_>], used: usize, places: u64) -> bool
+    ensures { IsTrue result ↔ All (CanBeFollowed used places) workers.now }
 {
-    workers
-        .iter()
-        .all(|worker| worker.is_done() && worker.has_room(places))
+    workers.iter().all(|worker| worker.history().len() == used && worker.has_room(places))
 }
 
-/// Fills the places that are left in a log, closes it, and opens the one that follows it.
+/// Closes a log whose workers serve no more, and opens the one that follows it. Returns also how
+/// many places of it were used: no more can be, since each worker has replayed all that the others
+/// have.
 ///
 /// Returns `None` if the changes of a whole log couldn't all get uniques, or memory runs out.
-/// Places may be filled in either case.
-fn next_log(alloc: Global, log: &Log, workers: &mut [Worker<'_>]) -> Option<Next>
+fn next_log(alloc: Global, log: &Log, workers: &mut [Worker<'_>]) -> Option<(usize, Next)>
     requires workers { AreWorkersOf log.now.settings log.now workers.old }
     requires some { 0 < length workers.old }
-    ensures later { AllZip FillsUp workers.old workers.new }
-    ensures fits { IfSome result (IsNextLog log.now.settings) }
-    ensures closes { IfSome result (λ next. Closes workers.old next.base.tables.items) }
+    ensures later { AllZip CatchesUp workers.old workers.new }
+    ensures fits { IfSome result (λ pair. IsNextLog log.now.settings pair.1) }
+    ensures few { IfSome result (λ pair. pair.0 ≤ log.now.settings.places) }
+    ensures closes { IfSome result (λ pair. Closes workers.old pair.0 pair.1.base.tables.items) }
 {
     uc_worker::laws::workers_go_on();
-    // A worker to whom memory is refused hasn't replayed all.
-    let _ = fill_all(workers);
-    if !can_be_followed(workers, log.settings().places()) {
+    let Ok(()) = catch_up_all(workers) else {
+        return None;
+    };
+    let Some(first) = workers.first() else {
+        unreachable!()
+    };
+    let used = first.history().len();
+    if !can_be_followed(workers, used, log.settings().places()) {
         return None;
     }
     match turn_over(alloc, workers, log.settings()) {
-        Ok(next) => Some(next),
+        Ok(next) => Some((used, next)),
         Err(_) => None,
     }
 }
@@ -156,8 +160,8 @@ fn serve_log<'a, R: Threads + Wait + Clock + Sync, B: Begin<S>, S>(
         Ended::Full => watch.note_close(rt),
     }
     let mut workers = workers;
-    if let Some(next) = next_log(alloc, log, &mut workers) {
-        return Ok(Served::Full(next));
+    if let Some((used, next)) = next_log(alloc, log, &mut workers) {
+        return Ok(Served::Full(used, next));
     }
     let mut nothing = None;
     let (workers, _) = serve_part(
@@ -256,12 +260,12 @@ fn serve_next<R: Threads + Wait + Clock + Sync>(
     Ok(served)
 }
 
-/// How many places earlier logs have in total at most before the last one begins, so that the
-/// number of all places that are used has 64 bits.
+/// How many places of earlier logs are used in total at most before the last one begins, so that
+/// the number of all that are used has 64 bits.
 const MOST_PLACES: u64 = u64::MAX - 4_194_304;
 
 /// Returns whether the log of this number, counted from 1, is the last one of `most` logs (0: no
-/// end), or of as many as may have places. The logs before it have `total` places.
+/// end), or of as many as may have places. Of the logs before it `total` places were used.
 fn is_last_log(most: u64, number: u64, total: u64) -> bool
     ensures more { result ≡ false → (most ≡ 0) ⊎ (number < most) }
     ensures total { result ≡ false → total ≤ MOST_PLACES }
@@ -302,7 +306,6 @@ pub(crate) fn serve_logs<R: Threads + Wait + Clock + Sync, B: Begin<S>, S>(
     // The laws from which it follows that all were answered and asked for.
     mc_connections::laws::connections_are_answered_over_logs();
     mc_connections::laws::commands_are_asked_for_over_logs();
-    let places = log.settings().places();
     let mut number = 1;
     let mut total = 0;
     let mut is_last = is_last_log(most, number, total);
@@ -312,12 +315,12 @@ pub(crate) fn serve_logs<R: Threads + Wait + Clock + Sync, B: Begin<S>, S>(
     let mut served = first;
     let mut closed = Some(left);
     for _ in rt.forever() {
-        let next = match served {
+        let (used, next) = match served {
             Served::Done(last) => return Ok(total + last as u64),
-            Served::Full(next) => next,
+            Served::Full(used, next) => (used, next),
         };
         number = number.saturating_add(1);
-        total += places;
+        total += used as u64;
         is_last = is_last_log(most, number, total);
         served = serve_next(rt, alloc, hashing, watch, front, next, is_last, &mut closed)?;
     }

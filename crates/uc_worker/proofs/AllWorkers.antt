@@ -46,6 +46,7 @@ as_before old new still = record {
   openings = ap (λ (r : Replica). r.openings) still.replica;
   history = history;
   tables = ap (λ (r : Replica). r.tables) still.replica;
+  learned = ap (λ (p : Part). p.state.learned) still.part;
   caught_up = record {
     continues = record {
       log = still.log;

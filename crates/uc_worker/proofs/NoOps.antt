@@ -108,23 +108,3 @@ closes_alone worker alone closing whole =
     let kept = kept_alone (seat_of worker).size alone in
     let places : (seat_of worker).size.places ≡ worker.log.now.settings.places = ap (λ (size : LogSize). size.places) worker.of.1 in
     let few = worker.pass.desk.law.few in omega (arith, kept, places, few, closing, whole)
-
--- workers one after another
-pub one_more_done : (workers : List Worker) (number : ℕ) (new : Worker) → ((k : ℕ) (d : Worker) → k < number → HasReplayedAll (get_or workers k d)) → HasReplayedAll new → number < length workers →
-    (k : ℕ) (d : Worker) → k < number + 1 → HasReplayedAll (get_or (slice_set workers number new) k d)
-one_more_done [] number new before done inside k d below = absurd (omega (arith, inside))
-one_more_done (x ∷ xs) zero new before done inside zero d below = done
-one_more_done (x ∷ xs) zero new before done inside (suc k) d below = absurd (omega (arith, below))
-one_more_done (x ∷ xs) (suc number) new before done inside zero d below = before zero d (omega arith)
-one_more_done (x ∷ xs) (suc number) new before done inside (suc k) d below =
-    one_more_done xs number new (λ j e less. before (suc j) e (omega (arith, less))) done (omega (arith, inside)) k d (omega (arith, below))
-
-pub one_more_fills : (old now : List Worker) (number : ℕ) (worker new : Worker) → AllZip FillsUp old now → worker ≡ get_or now number worker → FillsUp worker new → number < length old →
-    AllZip FillsUp old (slice_set now number new)
-one_more_fills old now number worker new all is on inside =
-    let was : FillsUp (get_or old number worker) worker = subst (FillsUp (get_or old number worker)) (sym is) (AllZip-get_or FillsUp old now number worker worker all inside) in
-    zip_set FillsUp old now number new all
-    (subst (λ (v : Worker). FillsUp v new) (get_or_any old number worker new inside) (fills_through (get_or old number worker) worker new was on))
-
-pub all_fill : (workers : List Worker) → AllZip FillsUp workers workers
-all_fill workers = zip_same FillsUp (λ worker. fills_quietly worker worker (record { continues = continues_self-value.it worker; announced = refl })) workers

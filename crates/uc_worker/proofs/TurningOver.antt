@@ -1,4 +1,4 @@
--- Workers that have replayed all places stay what they are when they meet.
+-- Workers that have replayed the same number of places stay what they are when they meet.
 use Rattle.std.proofs.Common.{◌≡◌, ℕ, zero, suc, ◌<◌, List, [], ◌∷◌, length, get_or, slice_get, Option, Some, ◌+◌, slice_set, All, Bor, sym, refl, ap, subst, ◌∙◌, arith}
 use Rattle.std.proofs.lemmas.Option.{get_or_from_slice_get, none-some, same_Some, slice_get_within}
 use mathlib.Core.Logic.{dite}
@@ -6,48 +6,35 @@ use native.Mathlib.Decide.{ℕ_discrete}
 use Rattle.std.proofs.lemmas.List.Elements.{AllZip-get_or, length_all_zip}
 use Rattle.std.specs.List.{AllZip}
 use Rattle.mc_model.specs.declared.request.Entry.{Entry}
-use Rattle.mc_model.specs.declared.shown.LogSize.{LogSize}
-use Rattle.lists.specs.Lists.{BeginsWith}
+use Rattle.mc_model.specs.declared.shown.WorkerState.{WorkerState}
 use Rattle.mc_model.specs.Replay.{EachStands, HaveRoom}
 use Rattle.mc_model.specs.Settings.{Configuration}
 use Rattle.mc_model.specs.State.{TableState}
 use Rattle.model_lemmas.proofs.Replays.{EachStands-length}
 use Rattle.uc_cells.specs.Sighting.{Sighting, entries}
 use Rattle.uc_log.specs.declared.log.Log.{Log}
-use Rattle.uc_log.specs.Passes.{size}
 use Rattle.uc_worker.specs.declared.worker.Worker.{Worker}
-use Rattle.uc_worker.specs.Going.{CatchesUp}
+use Rattle.uc_worker.specs.Going.{CatchesUp, StandsStill}
 use Rattle.uc_worker.specs.contracts.laws.WorkerGoesOn.TheImpl.{continues_self-value, continues_through-value}
-use Rattle.uc_worker.specs.TurningOver.{AllCanTurnOver, CanMeetAll, HaveOneHistory, CanTurnOver, IsAsBefore}
-use Rattle.uc_worker.specs.Worker.{HasReplayedAll, history_of, openings_of, tables_of}
-use Rattle.lists.proofs.Public.{begins_longer, begins_whole}
-
--- a history of all places can't grow
-pub still_history : (old new : Worker) → new.log ≡ old.log → HasReplayedAll old → BeginsWith (history_of new) (history_of old) → history_of new ≡ history_of old
-still_history old new log done begins =
-    let short = new.short in
-    let few = new.pass.desk.law.few in
-    let places : (size new.pass).places ≡ old.log.now.settings.places =
-    ap (λ (s : LogSize). s.places) new.of.1 ∙ ap (λ (lent : Bor Log). lent.now.settings.places) log in
-    let more = begins_longer (history_of new) (history_of old) begins in
-    sym (begins_whole (history_of new) (history_of old) begins (omega (arith, short, few, places, more, done)))
+use Rattle.uc_worker.specs.TurningOver.{AllCanTurnOver, CanMeetAll, HaveOneHistory, CanTurnOver, IsAsBefore, IsUpToDateAt}
+use Rattle.uc_worker.specs.Worker.{history_of, openings_of, tables_of}
 
 -- a log leaves one list of tables
 abbrev pub OneList : Type 0
 OneList = (openings : List TableState) (log : List (Option Entry)) (tables others : List TableState) →
     EachStands openings log tables → EachStands openings log others → tables ≡ others
 
--- and so the tables are what they were
-pub is_still : OneList → (old new : Worker) → CatchesUp old new → HasReplayedAll old →
+-- a worker that stands still keeps its history, and so its tables
+pub is_still : OneList → (old new : Worker) → CatchesUp old new → StandsStill old new →
     EachStands (openings_of old) (entries (history_of old)) (tables_of old) → EachStands (openings_of new) (entries (history_of new)) (tables_of new) → IsAsBefore old new
-is_still one_list old new caught done stands stands_new =
-    let log = caught.continues.log in
+is_still one_list old new caught stays stands stands_new =
     let openings = caught.continues.openings in
-    let history = still_history old new log done caught.continues.history in record {
+    let history = stays.history in record {
       caught_up = caught;
-      log = log;
+      log = caught.continues.log;
       openings = openings;
       history = history;
+      learned = ap (λ (state : WorkerState). state.learned) stays.seat.state;
       tables = one_list (openings_of new) (entries (history_of new)) (tables_of new) (tables_of old) stands_new
           (subst (λ (both : List TableState × List Sighting). EachStands both.0 (entries both.1) (tables_of old)) (λ i. (sym openings i, sym history i)) stands);
     }
@@ -58,6 +45,7 @@ still_self worker = record {
   openings = refl;
   history = refl;
   tables = refl;
+  learned = refl;
   caught_up = record { continues = continues_self-value.it worker; announced = refl };
 }
 
@@ -67,14 +55,15 @@ still_on first second third one two = record {
   openings = two.openings ∙ one.openings;
   history = two.history ∙ one.history;
   tables = two.tables ∙ one.tables;
+  learned = two.learned ∙ one.learned;
   caught_up = record {
     continues = continues_through-value.it first second third one.caught_up.continues two.caught_up.continues;
     announced = two.caught_up.announced ∙ one.caught_up.announced;
   };
 }
 
-pub still_done : (old new : Worker) → IsAsBefore old new → HasReplayedAll old → HasReplayedAll new
-still_done old new still done = ap length still.history ∙ done ∙ sym (ap (λ (lent : Bor Log). lent.now.settings.places) still.log)
+pub still_at : (replayed : ℕ) (old new : Worker) → IsAsBefore old new → IsUpToDateAt replayed old → IsUpToDateAt replayed new
+still_at replayed old new still at = (ap length still.history ∙ at.0 ∙ sym (ap length still.learned), ap length still.history ∙ at.1)
 
 -- lists place by place
 module _ {X : Type 0} (R : X → X → Type 0) where
@@ -95,6 +84,30 @@ get_or_any [] i d e inside = absurd (omega (arith, inside))
 get_or_any (x ∷ xs) zero d e inside = refl
 get_or_any (x ∷ xs) (suc i) d e inside = get_or_any xs i d e (omega (arith, inside))
 
+-- one more of a list is what those before it are
+pub one_more_is : {X : Type 0} (P : X → Type 0) (xs : List X) (number : ℕ) (new : X) → ((k : ℕ) (d : X) → k < number → P (get_or xs k d)) → P new → number < length xs →
+    (k : ℕ) (d : X) → k < number + 1 → P (get_or (slice_set xs number new) k d)
+one_more_is P [] number new before is inside k d below = absurd (omega (arith, inside))
+one_more_is P (x ∷ xs) zero new before is inside zero d below = is
+one_more_is P (x ∷ xs) zero new before is inside (suc k) d below = absurd (omega (arith, below))
+one_more_is P (x ∷ xs) (suc number) new before is inside zero d below = before zero d (omega arith)
+one_more_is P (x ∷ xs) (suc number) new before is inside (suc k) d below =
+    one_more_is P xs number new (λ j e less. before (suc j) e (omega (arith, less))) is (omega (arith, inside)) k d (omega (arith, below))
+
+-- workers catch up one after another
+pub none_catches_up : (workers : List Worker) → AllZip CatchesUp workers workers
+none_catches_up = zip_same CatchesUp (λ worker. record { continues = continues_self-value.it worker; announced = refl })
+
+pub one_more_catches_up : (old now : List Worker) (number : ℕ) (worker new : Worker) → AllZip CatchesUp old now → worker ≡ get_or now number worker → CatchesUp worker new → number < length old →
+    AllZip CatchesUp old (slice_set now number new)
+one_more_catches_up old now number worker new all is on inside =
+    let was : CatchesUp (get_or old number worker) worker = subst (CatchesUp (get_or old number worker)) (sym is) (AllZip-get_or CatchesUp old now number worker worker all inside) in
+    let through : CatchesUp (get_or old number worker) new = record {
+      continues = continues_through-value.it (get_or old number worker) worker new was.continues on.continues;
+      announced = on.announced ∙ was.announced;
+    } in
+    zip_set CatchesUp old now number new all (subst (λ (v : Worker). CatchesUp v new) (get_or_any old number worker new inside) through)
+
 -- One more has met it.
 module _ (one one_now : Worker) (others others_now : List Worker) (here : ℕ) (w : Worker) (one_still : IsAsBefore one one_now) (still : AllZip IsAsBefore others others_now)
     (inside : here < length others) (is : w ≡ get_or others_now here w) where
@@ -104,8 +117,9 @@ module _ (one one_now : Worker) (others others_now : List Worker) (here : ℕ) (
   pub meets_log : All (λ (other : Worker). other.log.now ≡ one.log.now) others → one_now.log.now ≡ w.log.now
   meets_log logs = ap (λ (lent : Bor Log). lent.now) one_still.log ∙ sym (ap (λ (lent : Bor Log). lent.now) was.log ∙ logs here w inside)
 
-  pub meets_done : HasReplayedAll one → All HasReplayedAll others → HasReplayedAll one_now × HasReplayedAll w
-  meets_done done all = (still_done one one_now one_still done, still_done (get_or others here w) w was (all here w inside))
+  pub meets_at : (replayed : ℕ) → All (IsUpToDateAt replayed) (one ∷ others) → IsUpToDateAt replayed one_now × IsUpToDateAt replayed w
+  meets_at replayed all =
+      (still_at replayed one one_now one_still (all 0 one (omega arith)), still_at replayed (get_or others here w) w was (all (suc here) w (omega (arith, inside))))
 
   module _ (one_new new : Worker) (one_on : IsAsBefore one_now one_new) (on : IsAsBefore w new) where
     pub still_all : IsAsBefore one one_new × AllZip IsAsBefore others (slice_set others_now here new)
@@ -126,10 +140,11 @@ module _ (one one_now : Worker) (others others_now : List Worker) (here : ℕ) (
 pub ready_beside : (settings : Configuration) (workers : List Worker) → AllCanTurnOver settings workers → (first : Worker) (others : List Worker) → workers ≡ first ∷ others →
     CanMeetAll first others
 ready_beside settings workers ready first others is =
-    let each : All (CanTurnOver ready.log settings) (first ∷ others) = subst (All (CanTurnOver ready.log settings)) is ready.each in
+    let each : All (CanTurnOver ready.log ready.replayed settings) (first ∷ others) = subst (All (CanTurnOver ready.log ready.replayed settings)) is ready.each in
     let head = each 0 first (omega arith) in record {
+      replayed = ready.replayed;
       log = λ k d below. (each (suc k) d (omega (arith, below))).of ∙ sym head.of;
-      done = (head.done, λ k d below. (each (suc k) d (omega (arith, below))).done);
+      up_to_date = λ k d below. (each k d below).up_to_date;
     }
 
 pub base_is : (old new : List Worker) (base : List TableState) → AllZip IsAsBefore old new → ((first : Worker) → slice_get new 0 ≡ Some first → base ≡ tables_of first) →

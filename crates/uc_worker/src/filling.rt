@@ -1,12 +1,11 @@
 //! Filling the places that are left in a log.
-ghost use Rattle.std.specs.List.{AllZip};
-ghost use Rattle.std.specs.Prelude.{◌≡◌, ◌⊎◌, ◌<◌, All, length, true, IfErr, IfOk, OnOk};
+ghost use Rattle.std.specs.Prelude.{◌≡◌, ◌⊎◌, ◌<◌, length, true, IfErr, IfOk, OnOk};
 ghost use Rattle.mc_model.specs.declared.fault.Fault.TheVariants as faults;
 ghost use Rattle.uc_worker.specs.Going.{FillsUp};
 ghost use Rattle.uc_worker.specs.Worker.{HasReplayedAll, IsFull, IsUpToDate, seat_of};
 
 use crate::announcing::{decide_no_op, settle};
-use crate::gate::{Gate, Open};
+use crate::gate::Gate;
 use crate::worker::Worker;
 use mc_model::Fault;
 
@@ -54,20 +53,4 @@ impl<'a> Worker<'a> {
         }
         Ok(())
     }
-}
-
-/// Fills the places that are left in a log, and lets each of these workers replay all of them: the
-/// first one fills them, and the others find them filled.
-///
-/// Returns the errors of `fill`: the workers after the one that meets one are unchanged then.
-pub fn fill_all(workers: &mut [Worker<'_>]) -> Result<(), Fault>
-    // Whatever comes of it, they have announced no command.
-    ensures fills { AllZip FillsUp workers.old workers.new }
-    ensures done { OnOk result (All HasReplayedAll workers.new) }
-    ensures faults { IfErr result (λ fault. (fault ≡ faults.Memory) ⊎ (fault ≡ faults.Taken)) }
-{
-    for number in 0..workers.len() {
-        workers[number].fill(&mut Open)?;
-    }
-    Ok(())
 }

@@ -4,10 +4,9 @@
 //! worker.
 #![tactic(auto)]
 
-pub use filling::fill_all;
 pub use gate::{Gate, Open, Step};
 pub use mc_items::Hashing;
-pub use turning_over::{Base, Next, turn_over, turn_over_alone};
+pub use turning_over::{Base, Next, catch_up_all, turn_over, turn_over_alone};
 pub use worker::{Answer, Worker};
 
 pub mod all_workers;
@@ -15,7 +14,7 @@ mod announcing;
 mod asking;
 mod catching_up;
 mod deciding;
-pub mod filling;
+mod filling;
 pub mod gate;
 pub mod laws;
 mod meeting;

@@ -1,5 +1,5 @@
-//! Closing a log whose workers have replayed all its places, and opening a new one over their
-//! tables.
+//! Closing a log whose workers have replayed the same number of its places, and opening a new one
+//! over their tables.
 ghost use Rattle.std.specs.List.{AllZip};
 ghost use Rattle.std.specs.Prelude.{◌≡◌, ◌↔◌, ◌<◌, ◌∷◌, ℕ, All, List, Some, [], length, slice_get, IfOk, IsOk, IsOkUnless, IsTrue, OnOk};
 ghost use Rattle.mc_model.specs.declared.fault.Fault.TheVariants as faults;
@@ -7,10 +7,12 @@ ghost use Rattle.mc_model.specs.Replay.{EachStands, HaveRoom};
 ghost use Rattle.uc_cells.specs.Sighting.{entries};
 ghost use Rattle.uc_log.specs.Passes.{IsNew, IsUnusedPass};
 ghost use Rattle.uc_worker.specs.AllWorkers.{AreOnOneRun};
+ghost use Rattle.uc_worker.specs.Going.{CatchesUp};
 ghost use Rattle.uc_worker.specs.TurningOver.{AllCanTurnOver, CanMeetAll, HaveOneHistory, IsAsBefore};
-ghost use Rattle.uc_worker.specs.Worker.{HasReplayedAll, history_of, openings_of, tables_of};
+ghost use Rattle.uc_worker.specs.Worker.{IsUpToDate, history_of, openings_of, tables_of};
 
 use crate::all_workers::find_one_run;
+use crate::gate::Open;
 use crate::worker::Worker;
 use mc_items::Items;
 use mc_items::tables::{copies_of, have_room};
@@ -51,10 +53,27 @@ pub struct Next {
     pub base: Base,
 }
 
-/// Lets two workers meet that have replayed all places: neither learns anything.
+/// Lets each of these workers catch up, one after another. If no other does anything meanwhile, all
+/// have replayed the same number of places then.
+///
+/// Returns `Memory` if memory runs out: the workers after the one that meets it are unchanged then.
+pub fn catch_up_all(workers: &mut [Worker<'_>]) -> Result<(), Fault>
+    ensures catches { AllZip CatchesUp workers.old workers.new }
+    ensures all { OnOk result (All IsUpToDate workers.new) }
+    ensures memory { IsOkUnless result faults.Memory }
+{
+    for number in 0..workers.len() {
+        workers[number].catch_up(&mut Open)?;
+    }
+    Ok(())
+}
+
+/// Lets two workers meet that have replayed the same number of places, and all that they have
+/// learned: neither learns anything.
 fn meet_done<'a>(one: &mut Worker<'a>, other: &mut Worker<'a>) -> Result<(), Fault>
     requires log { one.old.log.now ≡ other.old.log.now }
-    requires done { HasReplayedAll one.old × HasReplayedAll other.old }
+    requires up_to_date { IsUpToDate one.old × IsUpToDate other.old }
+    requires equal { length (history_of one.old) ≡ length (history_of other.old) }
     ensures before { IsAsBefore one.old one.new × IsAsBefore other.old other.new }
     ensures same { OnOk result (history_of one.new ≡ history_of other.new) }
     ensures memory { IsOkUnless result faults.Memory }
@@ -69,7 +88,7 @@ fn meet_done<'a>(one: &mut Worker<'a>, other: &mut Worker<'a>) -> Result<(), Fau
     met
 }
 
-/// Lets a worker meet the others one by one, all of which have replayed all places.
+/// Lets a worker meet the others one by one, all of which have replayed as many places as it has.
 fn meet_all<'a>(worker: &mut Worker<'a>, others: &mut [Worker<'a>]) -> Result<(), Fault>
     requires { CanMeetAll worker.old others.old }
     ensures before { IsAsBefore worker.old worker.new × AllZip IsAsBefore others.old others.new }
@@ -159,7 +178,7 @@ fn base_of(alloc: Global, workers: &[Worker<'_>]) -> Result<Base, Fault>
 }
 
 /// Opens a new log with these settings, over copies of the tables of the workers of a log that is
-/// closed: they have replayed all its places.
+/// closed: they have replayed the same number of its places, and all that they have learned.
 ///
 /// The workers meet first, so that each command that one of them has answered stands in the history
 /// of all, and its effect in the tables that the new log begins with. The quotas there are those of
@@ -184,7 +203,7 @@ pub fn turn_over(
     ensures base { IfOk result (λ next. (first : _) → slice_get workers.old 0 ≡ Some first →
         next.base.tables.items ≡ tables_of first) }
     // each of which is the one that the closed log was opened over, after its tenant's own commands
-    // of that whole log.
+    // in the workers' history.
     ensures stands { IfOk result (λ next. (first : _) → slice_get workers.old 0 ≡ Some first →
         EachStands (openings_of first) (entries (history_of first)) next.base.tables.items) }
     ensures room { IfOk result (λ next. HaveRoom next.base.tables.items settings.now.places) }
@@ -216,7 +235,7 @@ pub fn turn_over_alone(
     requires alone { worker.now.log.now.settings.workers ≡ 1 }
     requires ready { AllCanTurnOver settings.now (worker.now ∷ []) }
     // The new log begins with the worker's tables, each of which is the one that the closed log was
-    // opened over, after its tenant's own commands of that whole log.
+    // opened over, after its tenant's own commands in the worker's history.
     ensures base { IfOk result (λ next. next.base.tables.items ≡ tables_of worker.now) }
     ensures stands { IfOk result (λ next. EachStands (openings_of worker.now)
         (entries (history_of worker.now)) next.base.tables.items) }

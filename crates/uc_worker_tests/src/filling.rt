@@ -1,10 +1,10 @@
 //! Places that are left in a log, which are filled with entries that belong to nobody.
 use crate::clients::{both_clients, opened};
-use crate::generations::{Ask, Row, ask_rows, workers_of};
+use crate::generations::{Ask, Row, ask_rows};
 use crate::texts::QUOTAS;
 use mc_model::Fault;
 use std::alloc::Global;
-use uc_worker::{Worker, fill_all};
+use uc_worker::{Open, Worker};
 
 /// A command of each worker.
 const ROWS: [Row; 2] = [
@@ -28,11 +28,10 @@ fn fills(alloc: Global, places: u64) -> Result<(bool, bool), Fault> {
     let (mut first, mut second) = both_clients(alloc, &log, passes)?;
     ask_rows(alloc, &mut first, &mut second, &ROWS)?;
     let was_closing = first.worker.is_closing() && second.worker.is_closing();
-    let mut workers = workers_of(alloc, first, second)?;
-    fill_all(&mut workers)?;
-    let are_filled = workers
-        .iter()
-        .all(|worker| is_filled(worker, places as usize));
+    first.fill(&mut Open)?;
+    second.fill(&mut Open)?;
+    let places = places as usize;
+    let are_filled = is_filled(&first.worker, places) && is_filled(&second.worker, places);
     Ok((are_filled, was_closing))
 }
 

@@ -1,15 +1,15 @@
 //! Logs one after another: each begins with the tables that the one before has left.
-ghost use Rattle.std.specs.Prelude.{◌≡◌, ◌∷◌, [], ℕ, Some, length, slice_get, IfOk, IsTrue};
+ghost use Rattle.std.specs.Prelude.{◌≡◌, ◌∷◌, [], ℕ, All, Some, length, slice_get, IfOk, IsTrue};
 ghost use Rattle.mc_model.specs.Replay.{HaveRoom};
 ghost use Rattle.uc_log.specs.Passes.{IsUnusedPass};
-ghost use Rattle.uc_worker.specs.Worker.{HasReplayedAll, tables_of};
+ghost use Rattle.uc_worker.specs.Worker.{HasReplayedAll, history_of, tables_of};
 
 use crate::clients::{Client, are_equal, both_clients, both_passes, is_said, opened};
 use crate::texts::{QUOTAS, command_of};
 use mc_model::{Command, Fault, Limits};
 use std::alloc::Global;
 use uc_log::{Log, Pass};
-use uc_worker::{Base, Next, Open, Worker, turn_over};
+use uc_worker::{Base, Next, Open, Worker, catch_up_all, turn_over};
 
 /// What a worker is asked.
 #[derive(Clone, Copy)]
@@ -186,8 +186,40 @@ fn have_one_history(workers: &[Worker<'_>]) -> bool {
     }
 }
 
-/// Turns the log over. Returns `BadEvent` if a worker hasn't replayed all of it, has no room for as
-/// many places again, or has another history than the other.
+/// Returns whether each worker has replayed so many places of its log, and has room for so many more
+/// changes.
+fn can_be_followed(workers: &[Worker<'_>], used: usize, places: u64) -> bool
+    ensures { IsTrue result →
+        All (λ worker. (length (history_of worker) ≡ used) × HaveRoom (tables_of worker) places)
+        workers.now }
+{
+    workers.iter().all(|worker| worker.history().len() == used && worker.has_room(places))
+}
+
+/// Closes a log, at its last place or before, and opens the one that follows it. Returns `BadEvent`
+/// if one worker has replayed more places than another, or has no room for the changes of a log.
+fn next_log(alloc: Global, log: &Log, workers: &mut [Worker<'_>]) -> Result<Next, Fault>
+    requires { All (λ worker. worker.log.now ≡ log.now) workers.old }
+    ensures unused { IfOk result (λ next. (number : ℕ) (pass : _) →
+        slice_get next.passes.items number ≡ Some pass → IsUnusedPass next.log pass) }
+    ensures tenants { IfOk result
+        (λ next. length next.base.tables.items ≡ length next.log.settings.tenants) }
+    ensures room { IfOk result
+        (λ next. HaveRoom next.base.tables.items next.log.settings.places) }
+{
+    catch_up_all(workers)?;
+    let Some(first) = workers.first() else {
+        return Err(Fault::BadEvent);
+    };
+    let used = first.history().len();
+    if !can_be_followed(workers, used, log.settings().places()) {
+        return Err(Fault::BadEvent);
+    }
+    turn_over(alloc, workers, log.settings())
+}
+
+/// Turns the log over, as `next_log` does. Returns `BadEvent` also if one worker has another
+/// history than the other.
 pub(crate) fn turned_over<'a>(
     alloc: Global,
     log: &'a Log,
@@ -197,13 +229,8 @@ pub(crate) fn turned_over<'a>(
     requires one { first.log.now ≡ log.now }
     requires two { second.log.now ≡ log.now }
 {
-    let settings = log.settings();
-    let places = settings.places();
-    if !is_ready(&first.worker, places) || !is_ready(&second.worker, places) {
-        return Err(Fault::BadEvent);
-    }
     let mut workers = workers_of(alloc, first, second)?;
-    let next = turn_over(alloc, &mut workers, settings)?;
+    let next = next_log(alloc, log, &mut workers)?;
     if !have_one_history(&workers) {
         return Err(Fault::BadEvent);
     }
@@ -226,9 +253,9 @@ fn played<'a>(
     turned_over(alloc, log, first, second)
 }
 
-/// Plays a log that begins with empty tables.
-fn begun(alloc: Global, quotas: Limits, rows: &[Row]) -> Result<Opened, Fault> {
-    let (log, passes) = opened(alloc, 2, 2, &[quotas])?;
+/// Plays a log with this many places that begins with empty tables.
+fn begun(alloc: Global, quotas: Limits, places: u64, rows: &[Row]) -> Result<Opened, Fault> {
+    let (log, passes) = opened(alloc, 2, places, &[quotas])?;
     let (first, second) = both_clients(alloc, &log, passes)?;
     played(alloc, &log, first, second, rows)
 }
@@ -241,12 +268,13 @@ fn gone_on(alloc: Global, before: Opened, rows: &[Row]) -> Result<Opened, Fault>
     played(alloc, &log, first, second, rows)
 }
 
-/// Plays each of the logs, one after another. Returns `BadEvent` if a row is answered otherwise.
-fn go_through(alloc: Global, quotas: Limits, logs: &[[Row; 2]]) -> Result<(), Fault> {
+/// Plays each of the logs, which have this many places, one after another. Returns `BadEvent` if a
+/// row is answered otherwise.
+fn go_through(alloc: Global, quotas: Limits, places: u64, logs: &[[Row; 2]]) -> Result<(), Fault> {
     let Some((rows, more)) = logs.split_first() else {
         return Err(Fault::BadEvent);
     };
-    let mut next = begun(alloc, quotas, rows)?;
+    let mut next = begun(alloc, quotas, places, rows)?;
     for rows in more {
         next = gone_on(alloc, next, rows)?;
     }
@@ -255,10 +283,16 @@ fn go_through(alloc: Global, quotas: Limits, logs: &[[Row; 2]]) -> Result<(), Fa
 
 #[test]
 fn uniques_and_answered_commands_go_on(rt: HostRuntime) {
-    assert!(rt; go_through(rt.alloc(), QUOTAS, &LOGS) == Ok(()));
+    assert!(rt; go_through(rt.alloc(), QUOTAS, 2, &LOGS) == Ok(()));
 }
 
 #[test]
 fn quotas_that_were_set_go_on(rt: HostRuntime) {
-    assert!(rt; go_through(rt.alloc(), QUOTAS, &LIMITED) == Ok(()));
+    assert!(rt; go_through(rt.alloc(), QUOTAS, 2, &LIMITED) == Ok(()));
+}
+
+#[test]
+fn logs_are_closed_before_their_last_place(rt: HostRuntime) {
+    assert!(rt; go_through(rt.alloc(), QUOTAS, 3, &LOGS) == Ok(()));
+    assert!(rt; go_through(rt.alloc(), QUOTAS, 1_024, &LOGS) == Ok(()));
 }

@@ -2,10 +2,10 @@ use Rattle.std.proofs.Common.{◌≡◌, ◌∙◌, ◌++◌, List, ap, arith, d
 use Rattle.std.proofs.lemmas.List.Elements.{length_all_zip}
 use Rattle.std.specs.List.{AllZip}
 use Rattle.mc_net.specs.Running.{each_followed_by}
-use Rattle.mc_server.proofs.LogRuns.{all_gone_on, not_last, taken_whole}
+use Rattle.mc_server.proofs.LogRuns.{all_on, not_last, taken_whole}
 use Rattle.mc_server.proofs.NetworkRuns.{are_workers}
 use Rattle.mc_server.specs.Logs.{Closes, one_more_log}
-use Rattle.uc_worker.specs.Going.{FillsUp}
+use Rattle.uc_worker.specs.Going.{CatchesUp}
 use Rattle.uc_worker.specs.declared.worker.Worker.{Worker}
 use Rattle.mc_server.proofs.generations.serve_log.Goals as goal
 
@@ -42,13 +42,14 @@ pub returns-in-Some-clause-serves : goal.returns-in-Some-clause-serves
 returns-in-Some-clause-serves g c = λ logs places who tables were by opened.
     let begun = c.args.workers.items in
     let served = c.in_ok-workers.workers.items in
-    let closes : Closes served c.in-Some.next.base.tables.items =
-    subst (λ (workers : List Worker). Closes workers c.in-Some.next.base.tables.items) c.deref_mut.ensures.value c.in-Some.ensures.closes in (
+    let closes : Closes served c.in-Some.used c.in-Some.next.base.tables.items =
+    subst (λ (workers : List Worker). Closes workers c.in-Some.used c.in-Some.next.base.tables.items) c.deref_mut.ensures.value c.in-Some.ensures.closes in (
       not_last c.args.is_last c.in_ok-workers.ended c.in_ok-workers.ensures.last c.in-Full.is,
       record {
         fits = c.in-Some.ensures.fits;
+        few = c.in-Some.ensures.few;
         who = each_followed_by who begun served;
-        were = one_more_log logs places who tables c.in-Some.next.base.tables.items c.args.log.now begun served were opened c.in_ok-workers.ensures.back closes;
+        were = one_more_log logs places c.in-Some.used who tables c.in-Some.next.base.tables.items c.args.log.now begun served were opened c.in_ok-workers.ensures.back closes;
         by = c.in_ok-workers.ensures.in_turn who by;
       },
     )
@@ -57,12 +58,12 @@ returns-in-Some-clause-serves g c = λ logs places who tables were by opened.
 pub serve_part-requires-2-clause-workers : goal.serve_part-requires-2-clause-workers
 serve_part-requires-2-clause-workers g c κs within =
     let full = c.in_ok-workers.workers.items in
-    let many : length c.deref_mut.result.now ≡ length c.next_log.new.workers = length_all_zip FillsUp c.deref_mut.result.now c.next_log.new.workers c.next_log.ensures.later in
+    let many : length c.deref_mut.result.now ≡ length c.next_log.new.workers = length_all_zip CatchesUp c.deref_mut.result.now c.next_log.new.workers c.next_log.ensures.later in
     let whole : take c.in_ok-workers.workers.len (c.next_log.new.workers ++ drop (length c.next_log.new.workers) full) ≡ c.next_log.new.workers =
     taken_whole _ c.next_log.new.workers _ (c.in_ok-workers.workers.ok.0 ∙ ap length (sym c.deref_mut.ensures.value) ∙ many) in
-    let later : AllZip FillsUp full (take c.in_ok-workers.workers.len (c.next_log.new.workers ++ drop (length c.next_log.new.workers) full)) =
-    subst (AllZip FillsUp full) (sym whole) (subst (λ (workers : List Worker). AllZip FillsUp workers c.next_log.new.workers) c.deref_mut.ensures.value c.next_log.ensures.later) in
-    are_workers c.args.log.now.settings c.args.log.now full _ (all_gone_on full _ later) c.in_ok-workers.ensures.workers
+    let later : AllZip CatchesUp full (take c.in_ok-workers.workers.len (c.next_log.new.workers ++ drop (length c.next_log.new.workers) full)) =
+    subst (AllZip CatchesUp full) (sym whole) (subst (λ (workers : List Worker). AllZip CatchesUp workers c.next_log.new.workers) c.deref_mut.ensures.value c.next_log.ensures.later) in
+    are_workers c.args.log.now.settings c.args.log.now full _ (all_on full _ later) c.in_ok-workers.ensures.workers
 
 pub meet_all-requires-2 : goal.meet_all-requires-2
 meet_all-requires-2 g c =
@@ -73,11 +74,11 @@ pub returns-clause-serves : goal.returns-clause-serves
 returns-clause-serves g c = λ logs places who tables were by opened.
     let begun = c.args.workers.items in
     let full = c.in_ok-workers.workers.items in
-    let many : length c.deref_mut.result.now ≡ length c.next_log.new.workers = length_all_zip FillsUp c.deref_mut.result.now c.next_log.new.workers c.next_log.ensures.later in
+    let many : length c.deref_mut.result.now ≡ length c.next_log.new.workers = length_all_zip CatchesUp c.deref_mut.result.now c.next_log.new.workers c.next_log.ensures.later in
     let whole : take c.in_ok-workers.workers.len (c.next_log.new.workers ++ drop (length c.next_log.new.workers) full) ≡ c.next_log.new.workers =
     taken_whole _ c.next_log.new.workers _ (c.in_ok-workers.workers.ok.0 ∙ ap length (sym c.deref_mut.ensures.value) ∙ many) in
-    let later : AllZip FillsUp full (take c.in_ok-workers.workers.len (c.next_log.new.workers ++ drop (length c.next_log.new.workers) full)) =
-    subst (AllZip FillsUp full) (sym whole) (subst (λ (workers : List Worker). AllZip FillsUp workers c.next_log.new.workers) c.deref_mut.ensures.value c.next_log.ensures.later) in
+    let later : AllZip CatchesUp full (take c.in_ok-workers.workers.len (c.next_log.new.workers ++ drop (length c.next_log.new.workers) full)) =
+    subst (AllZip CatchesUp full) (sym whole) (subst (λ (workers : List Worker). AllZip CatchesUp workers c.next_log.new.workers) c.deref_mut.ensures.value c.next_log.ensures.later) in
     let served = c.in_ok-workers-2.workers.items in
     let who_then = each_followed_by who begun full in
     record {

@@ -1,4 +1,4 @@
-use Rattle.std.proofs.Common.{◌≡◌, ◌∙◌, ◌+◌, ap, arith, inl, inr, length, refl, subst, sym, ⊎_elim}
+use Rattle.std.proofs.Common.{◌+◌, arith, inl, inr, length, refl, subst, ⊎_elim}
 use Rattle.mc_model.specs.Settings.{Configuration}
 use Rattle.mc_server.proofs.LogRuns.{first_few, nobody_at, nobody_there, one_more_few, served_by_nobody, were_served}
 use Rattle.mc_server.specs.Logs.{IsFrontOf, LogsWere, ServesTo, no_log_yet}
@@ -33,23 +33,23 @@ loop-preserved g c =
     let before = c.loop.invariant in
     let so_far = before.so_far in
     let settings = c.args.log.settings in
+    let used = c.in-Full.used in
+    let total = c.loop.total + used in
     let went = subst (ServesTo settings c.loop.is_last so_far.0 c.loop.total c.loop.front) c.in-Full.is so_far.1 in
     let next = went.1 in
-    let places : c.places-places.result ≡ settings.places = c.places-places.ensures.value ∙ ap (λ (settings : Configuration). settings.places) c.settings.ensures in
-    let were = subst (λ n. LogsWere settings (so_far.0 + 1) (c.loop.total + n) next.who c.in-Full.next.base.tables.items) (sym places) next.were in
     let serves =
-    subst (λ (settings : Configuration). LogsWere settings (so_far.0 + 1) (c.loop.total + c.places-places.result) next.who c.in-Full.next.base.tables.items →
-    ServesTo settings c.is_last_log-is_last-in-loop.result (so_far.0 + 1) (c.loop.total + c.places-places.result) c.serve_next.new.front c.in_ok-served.served)
-    next.fits.settings_are (λ were. c.in_ok-served.ensures.serves (so_far.0 + 1) (c.loop.total + c.places-places.result) next.who were next.by) in
+    subst (λ (settings : Configuration). LogsWere settings (so_far.0 + 1) total next.who c.in-Full.next.base.tables.items →
+    ServesTo settings c.is_last_log-is_last-in-loop.result (so_far.0 + 1) total c.serve_next.new.front c.in_ok-served.served)
+    next.fits.settings_are (λ were. c.in_ok-served.ensures.serves (so_far.0 + 1) total next.who were next.by) in
     record {
       so_far = (
         so_far.0 + 1,
-        serves were,
+        serves next.were,
         ⊎_elim (λ none. inl none) (λ few. one_more_few so_far.0 c.loop.number c.args.most c.saturating_add-number.result (before.more went.0) few.0 (omega (arith, c.ranges.most.fits)) c.saturating_add-number.ensures) so_far.2,
       );
       more = c.is_last_log-is_last-in-loop.ensures.more;
       total = c.is_last_log-is_last-in-loop.ensures.total;
-      bound = omega (arith, places, before.total went.0, c.requires.places);
+      bound = omega (arith, next.few, before.total went.0, c.requires.places);
       front = subst (λ (settings : Configuration). IsFrontOf settings c.serve_next.new.front) next.fits.settings_are c.in_ok-served.ensures.front;
       begun = before.begun;
     }

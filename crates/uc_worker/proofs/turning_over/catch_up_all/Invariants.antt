@@ -1,0 +1,13 @@
+-- Those before this one have caught up.
+use Rattle.std.proofs.Common.{◌<◌, ℕ, get_or}
+use Rattle.std.specs.List.{AllZip}
+use Rattle.uc_worker.specs.declared.worker.Worker.{Worker}
+use Rattle.uc_worker.specs.Going.{CatchesUp}
+use Rattle.uc_worker.specs.Worker.{IsUpToDate}
+use Rattle.uc_worker.proofs.turning_over.catch_up_all.Given as goal
+
+abbrev pub invariant-loop-number : goal.invariant-loop-number
+invariant-loop-number l = record {
+  catches : AllZip CatchesUp l.fn.workers l.workers;
+  all : (k : ℕ) (d : Worker) → k < l.number → IsUpToDate (get_or l.workers k d);
+}
