@@ -1,9 +1,11 @@
 -- All workers are of the log, have replayed as many places of it, and have room for as many places again.
-use Rattle.std.proofs.Common.{◌≡◌, ◌∙◌, Bor, All, ap, arith, length, slice_index_or, subst, sym}
+use Rattle.std.proofs.Common.{◌≡◌, ◌∙◌, Bor, All, Err, IfOk, Ok, Result, ap, arith, length, slice_index_or, subst, sym}
 use Rattle.std.proofs.lemmas.Option.{slice_get_within}
+use Rattle.mc_model.specs.declared.fault.Fault.{Fault}
 use Rattle.mc_model.specs.Replay.{HaveRoom}
 use Rattle.mc_model.specs.Settings.{Configuration}
 use Rattle.uc_worker.specs.TurningOver.{CanTurnOver}
+use Rattle.uc_worker.specs.declared.turning_over.Next.{Next}
 use Rattle.uc_worker.specs.Worker.{tables_of}
 use Rattle.std.proofs.lemmas.List.Elements.{AllZip-get_or, length_all_zip}
 use Rattle.uc_log.specs.declared.log.Log.{Log}
@@ -33,3 +35,12 @@ turn_over-requires c =
       some = slice_get_within workers 0 c.in-Some.first.now (sym c.in-Some.ensures.value);
       each = each;
     }
+
+-- the next log has the settings that were given, and its tables have room for its changes
+room_of : (result : Result Next Fault) (settings : Configuration) → IfOk result (λ next. next.log.settings ≡ settings) →
+    IfOk result (λ next. HaveRoom next.base.tables.items settings.places) → IfOk result (λ next. HaveRoom next.base.tables.items next.log.settings.places)
+room_of (Ok next) settings is room = subst (λ (known : Configuration). HaveRoom next.base.tables.items known.places) (sym is) room
+room_of (Err fault) settings is room = tt
+
+pub returns-clause-room : goal.returns-clause-room
+returns-clause-room c = room_of c.turn_over.result c.settings-2.result.now c.turn_over.ensures.settings c.turn_over.ensures.room
