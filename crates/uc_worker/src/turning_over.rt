@@ -181,8 +181,9 @@ fn base_of(alloc: Global, workers: &[Worker<'_>]) -> Result<Base, Fault>
 /// closed: they have replayed the same number of its places, and all that they have learned.
 ///
 /// The workers meet first, so that each command that one of them has answered stands in the history
-/// of all, and its effect in the tables that the new log begins with. The quotas there are those of
-/// the tables; the settings only say how many tenants there are.
+/// of all, and its effect in the tables that the new log begins with. One that is left out could
+/// still announce where places are left, and the new log wouldn't know. The quotas there are those
+/// of the tables; the settings only say how many tenants there are.
 ///
 /// Returns `Memory` if memory runs out. The workers are as they were before in either case.
 pub fn turn_over(
