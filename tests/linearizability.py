@@ -262,7 +262,7 @@ def run_endless(program, seed, number, workers, log_bytes):
     connections = sum(count + 1 + EPOCHS for count in alike.values()) + 1
     options = [*ADMIN, *METRICS, "--workers", str(workers), *endless(log_bytes), "--connections", str(connections)]
     with Server(program, options, tenants) as server:
-        idle = server.connect(tenants[0] if isinstance(tenants, list) else next(iter(tenants)))
+        idle = server.connect(next(iter(tenants)))
         kinds = {
             name: [(Client, (server.ports[name],))] * alike[name]
             + [(Administrator, (server.ports["admin"], name)), (KilledClient, (server.ports[name], server.pid))]

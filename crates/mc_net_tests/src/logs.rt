@@ -19,7 +19,7 @@ use std::thread::{Threads, join};
 use uc_log::{Log, Pass};
 use uc_worker::{Base, Next, Open, Worker, catch_up_all, turn_over};
 
-/// Returns whether each worker has replayed so many places of its log, and so many more changes can
+/// Returns whether each worker has replayed `used` places of its log, and `places` more changes can
 /// get uniques in its tables.
 fn can_be_followed(workers: &[Worker<'_>], used: usize, places: u64) -> bool
     ensures { IsTrue result →

@@ -69,10 +69,10 @@ pub record Closes (workers : List Worker) (used : ℕ) (tables : List TableState
   pub stands : (first : Worker) → slice_get closed 0 ≡ Some first →
       EachStands (openings_of first) (entries (history_of first)) tables
 
--- Logs with these settings were served one after another, and each is closed: so many logs, of
--- which so many places were used in total. These workers have served at the event loops, log after
--- log; the first log began with empty tables, and each later one with those that the one before it
--- has left. The next one is to begin with these.
+-- Logs with these settings were served one after another, and each is closed: this many logs, of
+-- which this many places were used in total. These workers have served at the event loops, log
+-- after log; the first log began with empty tables, and each later one with those that the one
+-- before it has left. The next one is to begin with these.
 pub data LogsWere (settings : Configuration) : ℕ → ℕ → List InTurn → List TableState →
     Type 0 where
   no_log_yet : (who : List InTurn) → All (λ (one : InTurn). one ≡ nobody) who →
@@ -151,8 +151,8 @@ pub record IsNextLog (settings : Configuration) (next : Next) : Type 0 where
 abbrev pub AreServedBy : List InTurn → Front → Type 0
 AreServedBy who front = AllZip HasBeenServedBy who front.event_loops.items
 
--- a worker has replayed so many places of its log, and in its tables this many more changes can get
--- uniques
+-- a worker has replayed this many places of its log, and in its tables `places` more changes can
+-- get uniques
 abbrev pub CanBeFollowed : ℕ → ℕ → Worker → Type 0
 CanBeFollowed used places worker =
     (length (history_of worker) ≡ used) × HaveRoom (tables_of worker) places
@@ -169,7 +169,7 @@ pub record EndsThere (settings : Configuration) (logs places last : ℕ) (front 
   pub by : AreServedBy all front
   pub over : All IsEmptyLoop front.event_loops.items
 
--- the log is closed after so many places, and is followed by the next one
+-- the log is closed after `used` places, and is followed by the next one
 pub record GoesOnWith (settings : Configuration) (logs places used : ℕ) (next : Next)
     (front : Front) : Type 0 where
   pub fits : IsNextLog settings next

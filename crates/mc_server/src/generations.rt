@@ -56,7 +56,7 @@ impl Begin<Option<Closed>> for FreeClosed {
     }
 }
 
-/// Returns whether each worker has replayed so many places of its log, and so many more changes can
+/// Returns whether each worker has replayed `used` places of its log, and `places` more changes can
 /// get uniques in its tables.
 fn can_be_followed(workers: &[Worker<'_>], used: usize, places: u64) -> bool
     ensures { IsTrue result ↔ All (CanBeFollowed used places) workers.now }
@@ -65,8 +65,7 @@ fn can_be_followed(workers: &[Worker<'_>], used: usize, places: u64) -> bool
 }
 
 /// Closes a log whose workers serve no more, and opens the one that follows it. Returns also how
-/// many places of it were used: no more can be, since each worker has replayed all that the others
-/// have.
+/// many places of it were used, which all of its workers have replayed.
 ///
 /// Returns `None` if the changes of a whole log couldn't all get uniques, or memory runs out.
 fn next_log(alloc: Global, log: &Log, workers: &mut [Worker<'_>]) -> Option<(usize, Next)>

@@ -186,8 +186,8 @@ fn have_one_history(workers: &[Worker<'_>]) -> bool {
     }
 }
 
-/// Returns whether each worker has replayed so many places of its log, and has room for so many more
-/// changes.
+/// Returns whether each worker has replayed `used` places of its log, and has room for `places`
+/// more changes.
 fn can_be_followed(workers: &[Worker<'_>], used: usize, places: u64) -> bool
     ensures { IsTrue result →
         All (λ worker. (length (history_of worker) ≡ used) × HaveRoom (tables_of worker) places)
