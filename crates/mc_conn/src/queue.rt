@@ -20,6 +20,10 @@ use std::marker::Model;
 /// How many bytes of memory a queue keeps at most once all that it held is pushed.
 const KEPT_BYTES: usize = 65_536;
 
+/// A vector of more bytes isn't shortened, since it would drop them one by one. For fewer of them
+/// that costs less than other memory.
+const SHORT_BYTES: usize = 4_096;
+
 /// A block of this many bytes or more isn't copied: one push more costs less than the copy.
 const RUN_BYTES: usize = 32_768;
 
@@ -204,19 +208,34 @@ impl Queue {
 
     /// Moves the own bytes that are to be pushed to the front of the vector, if they are no more
     /// than those that were pushed since the last move.
-    ///
-    /// If the vector has more memory than a queue keeps, and little of it is used, gives it back.
     fn settle(&mut self)
         ensures { self.new ≡ self.old }
     {
         let left = self.bytes.len() - self.pushed;
-        if self.pushed >= left {
-            self.bytes.copy_within(self.pushed.., 0);
-            self.bytes.truncate(left);
+        if left > self.pushed {
+            return;
+        }
+        if self.bytes.len() > SHORT_BYTES || self.bytes.capacity() > KEPT_BYTES {
+            self.renew();
+            return;
+        }
+        self.bytes.copy_within(self.pushed.., 0);
+        self.bytes.truncate(left);
+        self.pushed = 0;
+    }
+
+    /// Moves the own bytes that are to be pushed to another vector, unless memory runs out. If they
+    /// fit into as much memory as a queue keeps, it has no more.
+    fn renew(&mut self)
+        ensures { self.new ≡ self.old }
+    {
+        let left = &self.bytes[self.pushed..];
+        let mut bytes = Vec::new(*self.bytes.allocator());
+        // If there isn't so much, the bytes that are left may still fit.
+        let _ = bytes.reserve_exact(self.bytes.capacity().min(KEPT_BYTES));
+        if bytes.extend_from_slice(left).is_ok() {
+            self.bytes = bytes;
             self.pushed = 0;
-            if left <= self.bytes.capacity() / 64 && self.bytes.capacity() > KEPT_BYTES {
-                self.bytes.shrink_to_fit();
-            }
         }
     }
 

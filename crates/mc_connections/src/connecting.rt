@@ -14,6 +14,7 @@ use crate::arrival::{Admission, Arrival};
 use crate::closing::Closing;
 use crate::connection::Connection;
 use crate::connections::{Connections, is_among};
+use crate::pace::{Pace, REQUESTS_OF_A_READ};
 use crate::socket::{SocketInput, SocketOutput, Spends};
 use mc_conn::{Conn, PULL_BYTES, Role, State};
 use mc_counters::Tally;
@@ -28,25 +29,6 @@ use uc_worker::{Gate, Worker};
 /// How many turns a connection gets at most each time that it is served, so that the others get
 /// theirs soon: a turn takes at most a buffer of bytes.
 const TURNS: u32 = 2;
-
-/// How many requests a read is to bring at most, so that a turn is short where they are small; once
-/// as many were answered there is no further turn.
-const REQUESTS_OF_A_READ: u64 = 64;
-
-/// How many bytes a read takes at most where a connection's requests are small, or not known yet.
-const LEAST_READ: usize = 2_048;
-
-/// Returns how many bytes a connection's next reads take at most, by the bytes and the requests of
-/// its last serve: all that there is room for if there was no request, since a block may be on its
-/// way.
-fn read_bytes(bytes: u64, requests: u64) -> usize {
-    match bytes.checked_div(requests) {
-        Some(each) => (each.saturating_mul(REQUESTS_OF_A_READ) as usize).clamp(
-            LEAST_READ, PULL_BYTES,
-        ),
-        None => PULL_BYTES,
-    }
-}
 
 /// What serving a connection came to.
 #[derive(Clone, Copy)]
@@ -168,13 +150,13 @@ impl Connection {
             sent,
             bytes_received,
             bytes_sent,
-            most_read,
+            pace,
             is_served,
         } = self;
         *is_served = true;
         let answered = conn.answered();
         let tape = mem::replace(received, Tape::new());
-        let mut input = SocketInput::resume(stream, *most_read, stops_short, tape, came);
+        let mut input = SocketInput::resume(stream, pace.most_read(), stops_short, tape, came);
         let tape = mem::replace(sent, Tape::new());
         let mut output = SocketOutput::resume(stream, tape, went);
         let state = turns(
@@ -193,7 +175,7 @@ impl Connection {
         let requests = conn.answered().saturating_sub(answered);
         // Where nothing came, the requests that come next are likely as long as the last ones.
         if given > 0 {
-            *most_read = read_bytes(given, requests);
+            pace.count(given, requests);
         }
         let bytes = given.saturating_add(bytes_sent.saturating_sub(went));
         Served {
@@ -249,7 +231,7 @@ impl Connections {
             sent: Tape::new(),
             bytes_received: 0,
             bytes_sent: 0,
-            most_read: LEAST_READ,
+            pace: Pace::new(),
             is_served: false,
         };
         Admission::Admitted(self.by_key.insert_reserved(connection))

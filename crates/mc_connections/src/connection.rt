@@ -2,6 +2,7 @@
 ghost use Rattle.std.specs.Prelude.{◌≡◌};
 ghost use Rattle.mc_connections.specs.Moving.{byte_count};
 
+use crate::pace::Pace;
 use mc_conn::Conn;
 use mc_stream::Tape;
 use mio::net::TcpStream;
@@ -18,8 +19,8 @@ pub struct Connection {
     /// How many bytes came so far, and how many were sent.
     pub(crate) bytes_received: u64,
     pub(crate) bytes_sent: u64,
-    /// How many bytes a read takes at most (`read_bytes`).
-    pub(crate) most_read: usize,
+    /// How long its requests are, by which its reads are as long.
+    pub(crate) pace: Pace,
     /// It was served, so that it isn't one whose client has left before its first turn.
     pub(crate) is_served: bool,
     ghost counts_received: { bytes_received ≡ byte_count received.events },

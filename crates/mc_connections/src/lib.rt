@@ -21,6 +21,7 @@ mod connecting;
 pub mod connection;
 pub mod connections;
 pub mod laws;
+mod pace;
 pub mod past_connections;
 pub mod places;
 pub mod ready_queue;

@@ -1,5 +1,5 @@
 //! A queue of bytes: they are added at the end and taken from the front.
-ghost use Rattle.std.specs.Prelude.{◌≡◌, ℕ, ◌+◌, ◌≤◌, List, [], ◌++◌, drop, length, take, vec_len, IfOk, IsOkUnless, OnOk, OnErr};
+ghost use Rattle.std.specs.Prelude.{◌≡◌, ℕ, ◌+◌, ◌≤◌, List, [], ◌++◌, drop, length, take, IfOk, IsOkUnless, OnOk, OnErr};
 
 use bytes::Bytes;
 use mc_model::Fault;
@@ -10,21 +10,47 @@ use std::mem;
 /// How many bytes of memory an empty buffer keeps at most.
 const SPARE_BYTES: usize = 65_536;
 
-/// A queue of bytes in one vector. Bytes that were taken stay in front until they are half of the
-/// vector or more, so that moving the rest costs no more than the bytes that were taken. The
-/// vector's length is at most twice the bytes in the queue.
+/// A queue of bytes in one vector, between those that were taken and those that are spare: bytes
+/// of before, which are written over. The vector isn't shortened, since it would drop byte by byte.
+///
+/// What is left is moved to the front only while it is no longer than what was taken, so moving
+/// costs no more than the bytes that were taken.
 #[derive(Debug, Drop)]
 pub struct Buffer {
     bytes: Vec<u8>,
     taken: usize,
+    end: usize,
 }
 
 impl Model for Buffer {
+    ghost use Rattle.std.specs.Prelude.{ℕ, ◌≤◌, List, drop, take, vec_len};
+
     ghost Value = { List ℕ };
 
-    ghost view = { λ buffer. drop buffer.taken buffer.bytes.items };
+    ghost view = { λ buffer. drop buffer.taken (take buffer.end buffer.bytes.items) };
 
-    ghost invariant = { λ buffer. buffer.taken + buffer.taken ≤ vec_len buffer.bytes };
+    ghost invariant = { λ buffer. (buffer.taken ≤ buffer.end) × (buffer.end ≤ vec_len buffer.bytes) };
+}
+
+/// Copies the bytes from `start` on, as many as `count`, to the front.
+fn copy_to_front(bytes: &mut [u8], start: usize, count: usize)
+    requires apart { count ≤ start }
+    requires inside { start + count ≤ length bytes.old }
+    ensures front { take count bytes.new ≡ take count (drop start bytes.old) }
+    ensures len { length bytes.new ≡ length bytes.old }
+{
+    let (front, behind) = bytes.split_at_mut(start);
+    front[..count].copy_from_slice(&behind[..count]);
+}
+
+/// Writes a piece over the bytes from `start` on.
+fn write_over(bytes: &mut [u8], start: usize, piece: &[u8])
+    requires { start + length piece.now ≤ length bytes.old }
+    ensures written { take (start + length piece.now) bytes.new ≡ take start bytes.old ++ piece.now }
+    ensures len { length bytes.new ≡ length bytes.old }
+{
+    let (_, behind) = bytes.split_at_mut(start);
+    behind[..piece.len()].copy_from_slice(piece);
 }
 
 impl Buffer {
@@ -35,6 +61,7 @@ impl Buffer {
         Buffer {
             bytes: Vec::new(alloc),
             taken: 0,
+            end: 0,
         }
     }
 
@@ -42,7 +69,19 @@ impl Buffer {
     pub fn as_slice(&self) -> &[u8]
         ensures { result.now ≡ self.now }
     {
-        &self.bytes[self.taken..]
+        &self.bytes[self.taken..self.end]
+    }
+
+    /// Moves the bytes to the front, if they are no more than those that were taken.
+    fn settle(&mut self)
+        ensures { self.new ≡ self.old }
+    {
+        let left = self.end - self.taken;
+        if left <= self.taken {
+            copy_to_front(&mut self.bytes, self.taken, left);
+            self.taken = 0;
+            self.end = left;
+        }
     }
 
     /// Appends bytes. Returns `Memory` if an allocation fails; the queue is unchanged then.
@@ -51,7 +90,15 @@ impl Buffer {
         ensures memory { IsOkUnless result Fault.Memory }
         ensures unchanged { OnErr result (self.new ≡ self.old) }
     {
-        self.bytes.extend_from_slice(piece)?;
+        self.settle();
+        if piece.len() > self.bytes.len() - self.end {
+            self.bytes.truncate(self.end);
+            self.bytes.extend_from_slice(piece)?;
+            self.end = self.bytes.len();
+            return Ok(());
+        }
+        write_over(&mut self.bytes, self.end, piece);
+        self.end += piece.len();
         Ok(())
     }
 
@@ -66,6 +113,7 @@ impl Buffer {
     pub fn expect(&mut self, count: usize)
         ensures { self.new ≡ self.old }
     {
+        self.settle();
         let held = self.bytes.len() - self.taken;
         let _ = self.bytes.reserve_exact(count.saturating_sub(held));
     }
@@ -76,22 +124,20 @@ impl Buffer {
         ensures { self.new ≡ drop count self.old }
     {
         self.taken += count;
-        if self.taken >= self.bytes.len() - self.taken {
-            let left = self.bytes.len() - self.taken;
-            self.bytes.copy_within(self.taken.., 0);
-            self.bytes.truncate(left);
-            self.taken = 0;
-            self.give_back();
+        if self.taken == self.end {
+            self.clear();
         }
     }
 
-    /// Removes all bytes.
+    /// Removes all bytes. Gives the memory back if there is more of it than an empty buffer keeps.
     pub fn clear(&mut self)
         ensures { self.new ≡ [] }
     {
-        self.bytes.clear();
         self.taken = 0;
-        self.give_back();
+        self.end = 0;
+        if self.bytes.capacity() > SPARE_BYTES {
+            self.bytes = Vec::new(*self.bytes.allocator());
+        }
     }
 
     /// Removes `count` bytes from the front and returns them without copying them; the memory is
@@ -105,32 +151,26 @@ impl Buffer {
         ensures unchanged { OnErr result (self.new ≡ self.old) }
     {
         let alloc = *self.bytes.allocator();
-        let behind = Vec::from_slice(alloc, &self.bytes[self.taken + count..])?;
-        let bytes = mem::replace(&mut self.bytes, behind);
-        let taken = self.taken;
+        let start = self.taken;
+        let behind = Vec::from_slice(alloc, &self.as_slice()[count..])?;
+        let end = mem::replace(&mut self.end, behind.len());
         self.taken = 0;
-        match Bytes::from_vec(bytes) {
+        match Bytes::from_vec(mem::replace(&mut self.bytes, behind)) {
             Ok(all) => {
-                let mut all = all;
-                all.advance(taken);
-                all.truncate(count);
-                Ok(all)
+                let mut front = all;
+                front.truncate(end);
+                front.advance(start);
+                front.truncate(count);
+                Ok(front)
             }
             Err(failed) => {
-                self.bytes = failed.value;
-                self.taken = taken;
+                *self = Buffer {
+                    bytes: failed.value,
+                    taken: start,
+                    end,
+                };
                 Err(Fault::Memory)
             }
-        }
-    }
-
-    /// Gives the memory back if the buffer is empty and has more of it than an empty one keeps.
-    fn give_back(&mut self)
-        ensures { self.new ≡ self.old }
-    {
-        // Where bytes are left more will follow, which would take that memory again.
-        if self.bytes.is_empty() && self.bytes.capacity() > SPARE_BYTES {
-            self.bytes.shrink_to_fit();
         }
     }
 }

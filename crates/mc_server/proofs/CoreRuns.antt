@@ -8,12 +8,12 @@ use Rattle.mc_model.specs.Settings.{Configuration}
 use Rattle.mc_model.specs.State.{TableState, empty_table}
 use Rattle.mc_server.proofs.LogRuns.{all_on, workers_back}
 use Rattle.mc_server.proofs.NetworkRuns.{are_workers}
-use Rattle.mc_server.specs.CoreRuns.{ClosedLogsAnswerOwn, ClosedLogsAreCoreRuns, IsOneCoreRun, LastLogsAreCoreRuns, with_tenant}
+use Rattle.mc_server.specs.CoreRuns.{ClosedLogsAnswerOwn, ClosedLogsAreCoreRuns, ClosedLogsDecidedNoMore, IsOneCoreRun, LastLogsAreCoreRuns, with_tenant}
 use Rattle.mc_server.specs.Crew.{AreWorkersOf, number_of}
 use Rattle.mc_server.specs.Listeners.{CountsFrom}
 use Rattle.mc_server.specs.Logs.{AreOpenedOver}
 use Rattle.uc_log.specs.declared.log.Log.{Log}
-use Rattle.uc_worker.specs.AllWorkers.{AllDoOneCoreRun, AreAllOf, AreOnOneRun, OwnHaveTheirReplies}
+use Rattle.uc_worker.specs.AllWorkers.{AllDoOneCoreRun, AreAllOf, AreOnOneRun, NothingIsDecidedBehindAll, OwnHaveTheirReplies}
 use Rattle.uc_worker.specs.Cited.{entries}
 use Rattle.uc_worker.specs.Worker.{announced_of, history_of, openings_of}
 use Rattle.uc_worker.specs.declared.worker.Worker.{Worker}
@@ -46,6 +46,11 @@ pub closed_logs : AllDoOneCoreRun → ClosedLogsAreCoreRuns
 closed_logs law settings log used tables after begun served some opened onward closes =
     one_core_run law settings log tables closes.closed
     (are_workers settings log served closes.closed (all_on served closes.closed closes.later) (are_workers settings log begun served onward opened.all)) closes.run some
+
+pub no_more_decided : NothingIsDecidedBehindAll → ClosedLogsDecidedNoMore
+no_more_decided law settings log used tables after begun served some opened onward closes =
+    let all = are_workers settings log served closes.closed (all_on served closes.closed closes.later) (are_workers settings log begun served onward opened.all) in
+    law log closes.closed closes.run used (are_all settings log closes.closed all) (omega (arith, all.many, some)) closes.up_to_date
 
 pub last_logs : AllDoOneCoreRun → LastLogsAreCoreRuns
 last_logs law settings most number some were = one_core_run law settings were.serves.log were.serves.tables were.served

@@ -51,6 +51,14 @@ ClosedLogsAnswerOwn = (settings : Configuration) (log : Log) (used : ℕ)
     (tables ++ empty_table limits ∷ []) closes.closed) →
     AnswersOwn (length settings.tenants) tables closes.closed one.core.given
 
+-- The run of a closed log, which has all that its workers have done, has decided the places that
+-- were used, and no others: it has no command that their history lacks.
+abbrev pub ClosedLogsDecidedNoMore : Type 0
+ClosedLogsDecidedNoMore = (settings : Configuration) (log : Log) (used : ℕ)
+    (tables after : List TableState) (begun served : List Worker) → 0 < settings.workers →
+    AreOpenedOver settings log tables begun → AllZip Continues begun served →
+    (closes : Closes served used after) → length closes.run.1.decided ≡ used
+
 -- Of two commands that a worker announced the one that it announced first stands first in the log,
 -- if both stand there.
 abbrev pub KeepsOwnOrder : List Ticket → Type 0

@@ -1,6 +1,6 @@
 //! What follows of the logs that tenants were served on. A law is the contract of a function with
 //! an empty body, or with calls of the laws from which it follows.
-ghost use Rattle.mc_server.specs.CoreRuns.{AnnouncesInServedOrder, ClosedLogsAnswerOwn, ClosedLogsAreCoreRuns, LastLogsAreCoreRuns, RunsKeepOwnOrder};
+ghost use Rattle.mc_server.specs.CoreRuns.{AnnouncesInServedOrder, ClosedLogsAnswerOwn, ClosedLogsAreCoreRuns, ClosedLogsDecidedNoMore, LastLogsAreCoreRuns, RunsKeepOwnOrder};
 
 /// What the workers of a log have done, of all logs of a run of `wfmc` that ends, is one run of the
 /// core, the machine of the headline: each log that another has followed, and the last one. A no-op
@@ -14,6 +14,14 @@ pub fn each_log_is_one_run_of_the_core()
     ensures replies { ClosedLogsAnswerOwn }
 {
     uc_worker::all_workers::all_workers_run_the_core();
+}
+
+/// Nothing is decided on a closed log behind the history that the next one goes on from, though it
+/// may have places left: its workers have learned all that was decided.
+pub fn closed_logs_have_no_other_commands()
+    ensures { ClosedLogsDecidedNoMore }
+{
+    uc_worker::all_workers::nothing_is_decided_behind_all();
 }
 
 /// Of two commands of a worker that stand in its log's run, the one that it announced first stands

@@ -15,3 +15,4 @@ pub mod RunsOfTheCore
 pub mod OneCoreRun
 pub mod OwnReplies
 pub mod Unsettled
+pub mod Behind

@@ -35,7 +35,7 @@ abbrev sized_as : ℕ → ℕ → LogSize
 sized_as wide long = record { workers = wide; places = long }
 
 -- a run from the opening reaches its end
-reached : (size : LogSize) (run : List ShownEvent) (from log : ShownState) → IsReached size from → LeadOn size from run log → IsReached size log
+pub reached : (size : LogSize) (run : List ShownEvent) (from log : ShownState) → IsReached size from → LeadOn size from run log → IsReached size log
 reached size [] from log so_far lead = subst (IsReached size) (sym lead) so_far
 reached size (event ∷ run) from log so_far lead = reached size run lead.0 log ((event ∷ so_far.0), (from, so_far.1, lead.1)) lead.2
 

@@ -25,7 +25,7 @@ use Rattle.uc_places.specs.CoreRun.{IsCoreRun, log_size}
 use Rattle.uc_places.specs.OneRun.{AreOfAll}
 use Rattle.uc_places.specs.Run.{AreOneRun, HasMade, part_of}
 use Rattle.uc_worker.specs.declared.worker.Worker.{Worker}
-use Rattle.uc_worker.specs.TurningOver.{HaveOneHistory}
+use Rattle.uc_worker.specs.TurningOver.{HaveOneHistory, IsUpToDateAt}
 use Rattle.uc_worker.specs.Worker.{announced_of, history_of, seat_of}
 
 -- what a worker's seat knows of it: its number and state, and all its calls since the opening
@@ -153,6 +153,13 @@ AllDoOneCoreRun = (settings : Configuration) (nobody : ℕ) (tables : List Table
     settings.workers ≡ log.settings.workers → settings.places ≡ log.settings.places →
     length log.settings.tenants ≤ length settings.tenants → nobody < length settings.tenants →
     0 < length workers → DoOneCoreRun settings nobody tables workers
+
+-- Where all workers of a log are on one run and each has replayed this many places, which are all
+-- that it has learned, exactly so many are decided: whoever decides a place learns it.
+abbrev pub NothingIsDecidedBehindAll : Type 0
+NothingIsDecidedBehindAll = (log : Log) (workers : List Worker) (one : AreOnOneRun workers)
+    (places : ℕ) → AreAllOf log workers → 0 < length workers →
+    All (IsUpToDateAt places) workers → length one.1.decided ≡ places
 
 -- Each own command of these workers is answered, at the place where its worker has replayed it,
 -- with the reply that follows from that worker's history over these tables. No-ops belong to

@@ -8,7 +8,7 @@ ghost use Rattle.uc_core.specs.Core.{new_core};
 ghost use Rattle.uc_places.specs.Calls.{WitnessWith, Witnesses};
 ghost use Rattle.uc_places.specs.CoreRun.{core_over};
 ghost use Rattle.uc_places.specs.Run.{witnessed_by};
-ghost use Rattle.uc_worker.specs.AllWorkers.{AllDoOneCoreRun, AreOfItsLog, AreOfLog, AreOnOneRun, OwnHaveTheirReplies, TakesNoStep, TheyRunTheCore, WasSo, own_part};
+ghost use Rattle.uc_worker.specs.AllWorkers.{AllDoOneCoreRun, AreOfItsLog, AreOfLog, AreOnOneRun, NothingIsDecidedBehindAll, OwnHaveTheirReplies, TakesNoStep, TheyRunTheCore, WasSo, own_part};
 ghost use Rattle.uc_worker.specs.Going.{CatchesUp};
 ghost use Rattle.uc_worker.specs.Worker.{own_desk, seat_of};
 
@@ -127,6 +127,13 @@ pub fn find_run_of_all(log: &Log, workers: &mut [Worker<'_>])
     }
     find_run_of_first(workers);
 }
+
+/// Where all workers of a log have replayed the same number of places, and all that they have
+/// learned, the log's run has decided these places and no others. So a log that is turned over has
+/// no command that its history lacks.
+pub fn nothing_is_decided_behind_all()
+    ensures { NothingIsDecidedBehindAll }
+{}
 
 /// What all workers of a log have done, if one run has it all, is a run of the core, the machine of
 /// the headline, in which each worker has replayed as many places as its history has.

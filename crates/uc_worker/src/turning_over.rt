@@ -8,8 +8,9 @@ ghost use Rattle.uc_cells.specs.Sighting.{entries};
 ghost use Rattle.uc_log.specs.Passes.{IsNew, IsUnusedPass};
 ghost use Rattle.uc_worker.specs.AllWorkers.{AreOnOneRun};
 ghost use Rattle.uc_worker.specs.Going.{CatchesUp};
+ghost use Rattle.uc_worker.specs.Steps.{HasReadOn};
 ghost use Rattle.uc_worker.specs.TurningOver.{AllCanTurnOver, CanMeetAll, HaveOneHistory, IsAsBefore};
-ghost use Rattle.uc_worker.specs.Worker.{IsUpToDate, history_of, openings_of, tables_of};
+ghost use Rattle.uc_worker.specs.Worker.{IsUpToDate, history_of, openings_of, seat_of, tables_of};
 
 use crate::all_workers::find_one_run;
 use crate::gate::Open;
@@ -59,6 +60,8 @@ pub struct Next {
 /// Returns `Memory` if memory runs out: the workers after the one that meets it are unchanged then.
 pub fn catch_up_all(workers: &mut [Worker<'_>]) -> Result<(), Fault>
     ensures catches { AllZip CatchesUp workers.old workers.new }
+    // Each has read on as far as `Worker::catch_up` does, when it was its turn.
+    ensures read { OnOk result (All (λ worker. HasReadOn (seat_of worker)) workers.new) }
     ensures all { OnOk result (All IsUpToDate workers.new) }
     ensures memory { IsOkUnless result faults.Memory }
 {
