@@ -1,5 +1,5 @@
 -- Whoever decides a place learns it, so somebody always knows all places that are decided.
-use Rattle.std.proofs.Common.{◌≡◌, ℕ, zero, suc, ◌+◌, ◌<◌, ◌≤◌, ◌⊎◌, List, [], ◌∷◌, ◌++◌, All, Option, Some, None, length, map, slice_get, slice_set, inl, inr, refl, subst, sym, ap, ◌∙◌, arith, length-append, le_refl}
+use Rattle.std.proofs.Common.{◌≡◌, ℕ, zero, suc, ◌<◌, ◌≤◌, ◌⊎◌, List, [], ◌∷◌, All, Option, Some, None, length, map, slice_get, slice_set, inl, inr, refl, subst, sym, ap, ◌∙◌, arith, length-append, le_refl}
 use Rattle.std.proofs.Math.Decide.{dec_le}
 use Rattle.std.proofs.lemmas.Option.{get_or_from_slice_get, none-some, same_Some, slice_get-map, slice_get_within}
 use Rattle.std.specs.Option.{option_map}
@@ -9,7 +9,7 @@ use Rattle.mc_model.specs.declared.shown.LogSize.{LogSize}
 use Rattle.mc_model.specs.declared.shown.ShownState.{ShownState}
 use Rattle.mc_model.specs.declared.shown.WorkerState.{WorkerState}
 use Rattle.mc_model.specs.Helping.{LogLaw}
-use Rattle.mc_model.specs.Lawful.{IsReached, IsWorker, LeadOn, ShownEvent, Step, announces, decided_with, looks, next, proposes, reads, stops, with_worker}
+use Rattle.mc_model.specs.Lawful.{IsWorker, LeadOn, ShownEvent, Step, announces, decided_with, looks, next, proposes, reads, stops, with_worker}
 use Rattle.mc_model.specs.Shown.{new_log, proposal, propose, read}
 use Rattle.model_lemmas.proofs.Waiting.{is_lawful}
 use Rattle.uc_log.specs.declared.log.Log.{Log}

@@ -1,7 +1,7 @@
 //! Closing a log whose workers have replayed the same number of its places, and opening a new one
 //! over their tables.
 ghost use Rattle.std.specs.List.{AllZip};
-ghost use Rattle.std.specs.Prelude.{◌≡◌, ◌↔◌, ◌<◌, ◌∷◌, ℕ, All, List, Some, [], length, slice_get, IfOk, IsOk, IsOkUnless, IsTrue, OnOk};
+ghost use Rattle.std.specs.Prelude.{◌≡◌, ◌↔◌, ◌<◌, ◌∷◌, ℕ, All, List, Some, [], length, slice_get, IfOk, IsOkUnless, IsTrue, OnOk};
 ghost use Rattle.mc_model.specs.declared.fault.Fault.TheVariants as faults;
 ghost use Rattle.mc_model.specs.Replay.{EachStands, HaveRoom};
 ghost use Rattle.uc_cells.specs.Sighting.{entries};
