@@ -224,8 +224,8 @@ impl Queue {
         self.pushed = 0;
     }
 
-    /// Moves the own bytes that are to be pushed to another vector, unless memory runs out. If they
-    /// fit into as much memory as a queue keeps, it has no more.
+    /// Moves what is to be pushed of the vector to another one, unless memory runs out. If it fits
+    /// into as much memory as a queue keeps, the other has no more.
     fn renew(&mut self)
         ensures { self.new ≡ self.old }
     {

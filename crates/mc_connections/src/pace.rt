@@ -9,11 +9,11 @@ pub(crate) const REQUESTS_OF_A_READ: u64 = 64;
 /// How many bytes a read takes at most where a connection's requests are small, or not known yet.
 const LEAST_READ: usize = 2_048;
 
-/// Longer requests than this don't come whole by one read.
+/// If the mean is above this, the requests that have a block don't come whole by one read.
 const LONG_REQUEST: u64 = 8_192;
 
-/// The last request's bytes count for one in so many of the mean.
-const MEMORY: u64 = 8;
+/// The mean moves by one part in eight to what the last requests had.
+const PART: u64 = 8;
 
 /// How long the requests of a connection are, by those that came: what comes next is likely as
 /// long.
@@ -39,7 +39,7 @@ impl Pace {
         let bytes = self.unanswered.saturating_add(bytes);
         match bytes.checked_div(requests) {
             Some(each) => {
-                self.mean = (self.mean - self.mean / MEMORY).saturating_add(each / MEMORY);
+                self.mean = (self.mean - self.mean / PART).saturating_add(each / PART);
                 self.unanswered = 0;
             }
             None => self.unanswered = bytes,

@@ -46,7 +46,8 @@ fn copy_to_front(bytes: &mut [u8], start: usize, count: usize)
 /// Writes a piece over the bytes from `start` on.
 fn write_over(bytes: &mut [u8], start: usize, piece: &[u8])
     requires { start + length piece.now ≤ length bytes.old }
-    ensures written { take (start + length piece.now) bytes.new ≡ take start bytes.old ++ piece.now }
+    ensures written { take (start + length piece.now) bytes.new
+        ≡ take start bytes.old ++ piece.now }
     ensures len { length bytes.new ≡ length bytes.old }
 {
     let (_, behind) = bytes.split_at_mut(start);

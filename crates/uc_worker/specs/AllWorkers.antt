@@ -155,7 +155,7 @@ AllDoOneCoreRun = (settings : Configuration) (nobody : ℕ) (tables : List Table
     0 < length workers → DoOneCoreRun settings nobody tables workers
 
 -- Where all workers of a log are on one run and each has replayed this many places, which are all
--- that it has learned, exactly so many are decided: whoever decides a place learns it.
+-- that it has learned, exactly this many are decided: whoever decides a place learns it.
 abbrev pub NothingIsDecidedBehindAll : Type 0
 NothingIsDecidedBehindAll = (log : Log) (workers : List Worker) (one : AreOnOneRun workers)
     (places : ℕ) → AreAllOf log workers → 0 < length workers →
