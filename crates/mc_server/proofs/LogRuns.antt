@@ -72,11 +72,13 @@ pub closes : CatchesUpThrough → (log : Log) (used : ℕ) (settings : Configura
     All (CanTurnOver log used settings) now → AllZip IsAsBefore now new →
     HaveOneHistory new → AreOnOneRun new → ((first : Worker) → slice_get now 0 ≡ Some first → EachStands (openings_of first) (entries (history_of first)) tables) → Closes old used tables
 closes through log used settings old now new tables later can same one run stands = record {
-  closed = new;
-  later = all_caught_up through old now new later same;
-  up_to_date = all_at log used settings now new can same;
-  same = one;
-  run = run;
+  closes = record {
+    closed = new;
+    later = all_caught_up through old now new later same;
+    up_to_date = all_at log used settings now new can same;
+    same = one;
+    run = run;
+  };
   stands = first_stands now new tables same stands;
 }
 
@@ -169,6 +171,7 @@ were_served answered asked settings most logs places last number front ends few 
   few = few;
   run = ends.run;
   met = ends.met;
+  closes = ends.closes;
   ended = map ended_at front.event_loops.items;
   answered = all_answered answered asked ends.all front.event_loops.items ends.by ends.over;
   in_total = total;

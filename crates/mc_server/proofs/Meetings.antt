@@ -1,7 +1,7 @@
 -- Workers that have met, later on.
-use Rattle.std.proofs.Common.{◌≡◌, ◌⊎◌, ◌∙◌, ◌≤◌, ◌<◌, ℕ, ◌+◌, List, [], ◌∷◌, ◌++◌, Some, All, Contains, get_or, length, map, slice_get, ap, refl, suc, sym, subst, inl, inr, arith, ⊎_elim}
+use Rattle.std.proofs.Common.{◌≡◌, ◌⊎◌, ◌∙◌, ◌≤◌, ◌<◌, ℕ, ◌+◌, List, [], ◌∷◌, ◌++◌, Some, All, Contains, get_or, length, map, slice_get, ap, refl, zero, suc, sym, subst, inl, inr, arith, ⊎_elim}
 use Rattle.std.proofs.lemmas.List.Elements.{All-cons, All-contains, All-head, All-nil, All-tail, Contains-append_right}
-use Rattle.std.proofs.lemmas.Option.{same_Some, slice_get-get_or}
+use Rattle.std.proofs.lemmas.Option.{none-some, same_Some, slice_get-get_or}
 use Rattle.std.proofs.Math.Decide.{dec_le}
 use Rattle.std.specs.List.{AllZip}
 use Rattle.mc_model.specs.declared.id.Ticket.{Ticket}
@@ -12,7 +12,7 @@ use Rattle.lists.specs.Lists.{BeginsWith}
 use Rattle.mc_model.specs.Legal.{IsLegal, count}
 use Rattle.mc_model.specs.Settings.{Configuration}
 use Rattle.mc_server.specs.Listeners.{CountsFrom}
-use Rattle.mc_server.specs.Crew.{AreWorkersOf, HasMet, HaveMet, MeetsAnother, WasAnnounced, number_of, tickets_of}
+use Rattle.mc_server.specs.Crew.{AgreesWith, AreWorkersOf, HasMet, HaveClosed, HaveMet, MeetsAnother, WasAnnounced, number_of, tickets_of}
 use Rattle.uc_worker.specs.Going.{CatchesUp}
 use Rattle.uc_worker.specs.Worker.{IsUpToDate, announced_of, history_of, seat_of}
 use Rattle.uc_worker.specs.Cited.{Sighting}
@@ -21,7 +21,8 @@ use Rattle.uc_worker.specs.contracts.laws.WorkerGoesOn.TheImpl.{continues_self-v
 use Rattle.uc_worker.specs.Steps.{Rests}
 use Rattle.lists.proofs.Public.{begins_longer, begins_self, begins_through, begins_whole}
 use Rattle.uc_worker.specs.declared.worker.Worker.{Worker}
-use Rattle.uc_worker.specs.AllWorkers.{AreOfLog}
+use Rattle.uc_worker.specs.AllWorkers.{AreOfLog, AreOnOneRun}
+use Rattle.uc_worker.specs.TurningOver.{IsAsBefore, IsUpToDateAt}
 
 -- a worker that goes on without announcing, and its phase between two calls
 pub catches_self : (worker : Worker) → CatchesUp worker worker
@@ -128,14 +129,9 @@ all_of log old new (x ∷ xs) (y ∷ ys) met of =
     let P = λ (worker : Worker). worker.log.now ≡ log in
     All-cons P y ys (ap (λ lent. lent.now) met.0.later.continues.log ∙ All-head P x xs of) (all_of log old new xs ys met.1 (All-tail P x xs of))
 
--- A worker later on, which has replayed all that it has learned, has the same history as the one.
-pub record HasCome (one worker after : Worker) : Type 0 where
-  pub later : CatchesUp worker after
-  pub whole : IsUpToDate after
-  pub equal : history_of one ≡ history_of after
-
-has_come : (old one worker between after : Worker) → length (history_of one) ≡ length (history_of old) → CatchesUp worker between → MeetsAnother old one between after → HasCome one worker after
-has_come old one worker between after still later met =
+-- a worker that met the one in a round in which that one learned nothing more
+agrees_after : (old one worker between after : Worker) → length (history_of one) ≡ length (history_of old) → CatchesUp worker between → MeetsAnother old one between after → AgreesWith one worker after
+agrees_after old one worker between after still later met =
     let few = begins_longer (history_of one) (history_of after) met.front in
     let most = begins_longer (history_of after) (history_of old) met.most in
     record {
@@ -145,17 +141,17 @@ has_come old one worker between after still later met =
     }
 
 -- the same for all, after a round in which the worker learned nothing more
-pub all_have_come : (old one : Worker) (workers between after : List Worker) → length (history_of one) ≡ length (history_of old) → AllZip CatchesUp workers between
-    → AllZip (MeetsAnother old one) between after → AllZip (HasCome one) workers after
-all_have_come old one [] [] [] still later met = tt
-all_have_come old one [] [] (z ∷ zs) still later met = absurd met
-all_have_come old one [] (y ∷ ys) after still later met = absurd later
-all_have_come old one (x ∷ xs) [] after still later met = absurd later
-all_have_come old one (x ∷ xs) (y ∷ ys) [] still later met = absurd met
-all_have_come old one (x ∷ xs) (y ∷ ys) (z ∷ zs) still later met =
-    (has_come old one x y z still later.0 met.0, all_have_come old one xs ys zs still later.1 met.1)
+pub all_agree : (old one : Worker) (workers between after : List Worker) → length (history_of one) ≡ length (history_of old) → AllZip CatchesUp workers between
+    → AllZip (MeetsAnother old one) between after → AllZip (AgreesWith one) workers after
+all_agree old one [] [] [] still later met = tt
+all_agree old one [] [] (z ∷ zs) still later met = absurd met
+all_agree old one [] (y ∷ ys) after still later met = absurd later
+all_agree old one (x ∷ xs) [] after still later met = absurd later
+all_agree old one (x ∷ xs) (y ∷ ys) [] still later met = absurd met
+all_agree old one (x ∷ xs) (y ∷ ys) (z ∷ zs) still later met =
+    (agrees_after old one x y z still later.0 met.0, all_agree old one xs ys zs still later.1 met.1)
 
-all_met : (one : Worker) (workers after : List Worker) → AreOfLog one.log.now workers → AllZip (HasCome one) workers after → All (HasMet one) workers
+all_met : (one : Worker) (workers after : List Worker) → AreOfLog one.log.now workers → AllZip (AgreesWith one) workers after → All (HasMet one) workers
 all_met one [] [] of come = All-nil (HasMet one)
 all_met one [] (y ∷ ys) of come = absurd come
 all_met one (x ∷ xs) [] of come = absurd come
@@ -164,7 +160,7 @@ all_met one (x ∷ xs) (y ∷ ys) of come =
     All-cons (HasMet one) x xs (has_met one x y (All-head P x xs of) come.0.later come.0.equal come.0.whole) (all_met one xs ys (All-tail P x xs of) come.1)
 
 -- a worker whose history is the one's has announced each command of its own there
-own_announced : (one worker after : Worker) (place : ℕ) (ticket : Ticket) → HasCome one worker after → slice_get (tickets_of one) place ≡ Some ticket → ticket.worker ≡ number_of worker
+own_announced : (one worker after : Worker) (place : ℕ) (ticket : Ticket) → AgreesWith one worker after → slice_get (tickets_of one) place ≡ Some ticket → ticket.worker ≡ number_of worker
     → ticket.number < length (announced_of worker)
 own_announced one worker after place ticket come at whose =
     let same : tickets_of one ≡ (seat_of after).state.learned = ap (map (λ (seen : Sighting). seen.ticket)) come.equal ∙ tickets_learned after come.whole in
@@ -174,7 +170,7 @@ own_announced one worker after place ticket come at whose =
     omega (arith, below, count, same_count worker after come.later)
 
 -- of workers under numbers that go up by one, one has announced it
-was_announced : (one : Worker) (place : ℕ) (ticket : Ticket) → slice_get (tickets_of one) place ≡ Some ticket → (first : ℕ) (workers after : List Worker) → AllZip (HasCome one) workers after
+was_announced : (one : Worker) (place : ℕ) (ticket : Ticket) → slice_get (tickets_of one) place ≡ Some ticket → (first : ℕ) (workers after : List Worker) → AllZip (AgreesWith one) workers after
     → CountsFrom first (map number_of workers) → first ≤ ticket.worker → ticket.worker < first + length workers → WasAnnounced workers ticket
 was_announced one place ticket at first [] after come numbers least below = absurd (omega arith)
 was_announced one place ticket at first (x ∷ xs) [] come numbers least below = absurd come
@@ -192,7 +188,7 @@ was_announced one place ticket at first (x ∷ xs) (y ∷ ys) come numbers least
 
 -- Workers of a log whose histories are one worker's have met.
 pub have_met : (settings : Configuration) (log : Log) (workers after : List Worker) (first one : Worker) (number : ℕ) → AreWorkersOf settings log workers → Contains workers first
-    → CatchesUp first one → IsUpToDate one → AllZip (HasCome one) workers after → length (history_of one) ≡ number → HaveMet workers number
+    → CatchesUp first one → IsUpToDate one → AllZip (AgreesWith one) workers after → length (history_of one) ≡ number → HaveMet workers number
 have_met settings log workers after first one number all among later whole come long =
     let of_one : one.log.now ≡ log = ap (λ lent. lent.now) later.continues.log ∙ All-contains (λ (worker : Worker). worker.log.now ≡ log) workers first all.of among in
     let size : (seat_of one).size.workers ≡ settings.workers =
@@ -212,4 +208,62 @@ have_met settings log workers after first one number all among later whole come 
           let below = one.pass.desk.law.inside place ticket learned in
           was_announced one place ticket at 0 workers after come all.numbers (omega arith) (omega (arith, below.0, size, all.many));
       long = long;
+    }
+
+-- workers that agree with the one still do once they have found the run of all
+still_agree : (one : Worker) (workers met found : List Worker) → AllZip (AgreesWith one) workers met → AllZip IsAsBefore met found →
+    AllZip (AgreesWith one) workers found
+still_agree one [] [] [] agree before = tt
+still_agree one [] [] (z ∷ zs) agree before = absurd before
+still_agree one [] (y ∷ ys) found agree before = absurd agree
+still_agree one (x ∷ xs) [] found agree before = absurd agree
+still_agree one (x ∷ xs) (y ∷ ys) [] agree before = absurd before
+still_agree one (x ∷ xs) (y ∷ ys) (z ∷ zs) agree before = (
+  record {
+    later = catches_through x y z agree.0.later before.0.caught_up;
+    whole = ap (length {A = Sighting}) before.0.history ∙ (agree.0.whole ∙ sym (ap (length {A = Ticket}) before.0.learned));
+    equal = agree.0.equal ∙ sym before.0.history;
+  },
+  still_agree one xs ys zs agree.1 before.1,
+)
+
+later_of : (one : Worker) (workers after : List Worker) → AllZip (AgreesWith one) workers after → AllZip CatchesUp workers after
+later_of one [] [] agree = tt
+later_of one [] (y ∷ ys) agree = absurd agree
+later_of one (x ∷ xs) [] agree = absurd agree
+later_of one (x ∷ xs) (y ∷ ys) agree = (agree.0.later, later_of one xs ys agree.1)
+
+up_to_date_of : (one : Worker) (used : ℕ) (workers after : List Worker) → length (history_of one) ≡ used → AllZip (AgreesWith one) workers after → All (IsUpToDateAt used) after
+up_to_date_of one used [] [] long agree = All-nil (IsUpToDateAt used)
+up_to_date_of one used [] (y ∷ ys) long agree = absurd agree
+up_to_date_of one used (x ∷ xs) [] long agree = absurd agree
+up_to_date_of one used (x ∷ xs) (y ∷ ys) long agree =
+    All-cons (IsUpToDateAt used) y ys (agree.0.whole, sym (ap (length {A = Sighting}) agree.0.equal) ∙ long) (up_to_date_of one used xs ys long agree.1)
+
+history_at : (one : Worker) (workers after : List Worker) → AllZip (AgreesWith one) workers after → (place : ℕ) (worker : Worker) → slice_get after place ≡ Some worker →
+    history_of one ≡ history_of worker
+history_at one [] [] agree place worker at = absurd (none-some worker at)
+history_at one [] (y ∷ ys) agree place worker at = absurd agree
+history_at one (x ∷ xs) [] agree place worker at = absurd agree
+history_at one (x ∷ xs) (y ∷ ys) agree zero worker at = agree.0.equal ∙ ap history_of (same_Some y worker at)
+history_at one (x ∷ xs) (y ∷ ys) agree (suc place) worker at = history_at one xs ys agree.1 place worker at
+
+pub agree_of : (log : Log) (one : Worker) (workers after : List Worker) → AllZip (AgreesWith one) workers after → AreOfLog log workers → AreOfLog log after
+agree_of log one [] [] agree of = of
+agree_of log one [] (y ∷ ys) agree of = absurd agree
+agree_of log one (x ∷ xs) [] agree of = absurd agree
+agree_of log one (x ∷ xs) (y ∷ ys) agree of =
+    let P = λ (worker : Worker). worker.log.now ≡ log in
+    All-cons P y ys (ap (λ lent. lent.now) agree.0.later.continues.log ∙ All-head P x xs of) (agree_of log one xs ys agree.1 (All-tail P x xs of))
+
+-- Workers that agree with the one, and have found the run of all, have closed their log.
+pub have_closed : (one : Worker) (workers met found : List Worker) (used : ℕ) → AllZip (AgreesWith one) workers met → AllZip IsAsBefore met found →
+    AreOnOneRun found → length (history_of one) ≡ used → HaveClosed workers used
+have_closed one workers met found used agree before run long =
+    let now = still_agree one workers met found agree before in record {
+      closed = found;
+      later = later_of one workers found now;
+      up_to_date = up_to_date_of one used workers found long now;
+      same = λ i j first second at there. sym (history_at one workers found now i first at) ∙ history_at one workers found now j second there;
+      run = run;
     }

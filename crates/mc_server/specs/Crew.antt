@@ -1,4 +1,5 @@
 -- The workers of one log, and what they come to when they meet; this project's profile.
+use Rattle.std.specs.List.{AllZip}
 use Rattle.std.specs.Prelude.{◌≡◌, ◌<◌, ◌≤◌, ℕ, ◌+◌, List, [], All, Contains, length, map}
 use Rattle.lists.specs.Lists.{BeginsWith}
 use Rattle.mc_model.specs.declared.id.Ticket.{Ticket}
@@ -6,9 +7,10 @@ use Rattle.mc_model.specs.Legal.{IsLegal, count}
 use Rattle.mc_model.specs.Settings.{Configuration}
 use Rattle.mc_server.specs.Listeners.{CountsFrom}
 use Rattle.uc_log.specs.declared.log.Log.{Log}
-use Rattle.uc_worker.specs.AllWorkers.{AreOfLog}
+use Rattle.uc_worker.specs.AllWorkers.{AreOfLog, AreOnOneRun}
 use Rattle.uc_worker.specs.Cited.{Sighting}
 use Rattle.uc_worker.specs.Going.{CatchesUp}
+use Rattle.uc_worker.specs.TurningOver.{HaveOneHistory, IsUpToDateAt}
 use Rattle.uc_worker.specs.Worker.{IsUpToDate, announced_of, history_of, seat_of}
 use Rattle.uc_worker.specs.declared.worker.Worker.{Worker}
 
@@ -32,12 +34,6 @@ pub record AreWorkersOf (settings : Configuration) (log : Log)
   pub many : length workers ≡ settings.workers
   pub numbers : CountsFrom 0 (map number_of workers)
 
--- the workers of a log, at least one
-abbrev pub IsCrew : List Worker → Type 0
-IsCrew workers =
-    (settings : Configuration) × (log : Log) × AreWorkersOf settings log workers
-    × (0 < length workers)
-
 -- This worker has met the other: its history begins with the other's, and each command that the
 -- other has announced is in it, except for at most one, which is pending (Herlihy, Wait-Free
 -- Synchronization, TOPLAS 1991, the universal construction: all processes agree on one order of the
@@ -55,6 +51,12 @@ pub record MeetsAnother (old new other after : Worker) : Type 0 where
   pub whole : IsUpToDate after
   pub most : BeginsWith (history_of after) (history_of old)
   pub front : BeginsWith (history_of new) (history_of after)
+
+-- The other worker, later on, has replayed all that it has learned, and its history is this one's.
+pub record AgreesWith (one other after : Worker) : Type 0 where
+  pub later : CatchesUp other after
+  pub whole : IsUpToDate after
+  pub equal : history_of one ≡ history_of after
 
 -- one of these workers has announced the command of this ticket
 pub record WasAnnounced (workers : List Worker) (ticket : Ticket) : Type 0 where
@@ -76,3 +78,19 @@ pub record HaveMet (workers : List Worker) (number : ℕ) : Type 0 where
   pub once : IsLegal (tickets_of one)
   pub announced : All (WasAnnounced workers) (tickets_of one)
   pub long : length (history_of one) ≡ number
+
+-- The workers of a log have closed it: later on they have announced nothing more, and have one
+-- history, of this many places, in which all stands that they have learned. So each command that
+-- one of them has answered stands in it; and one run of the log, from its opening, has all that
+-- they have done.
+pub record HaveClosed (workers : List Worker) (used : ℕ) : Type 0 where
+  pub closed : List Worker
+  pub later : AllZip CatchesUp workers closed
+  pub up_to_date : All (IsUpToDateAt used) closed
+  pub same : HaveOneHistory closed
+  pub run : AreOnOneRun closed
+
+-- they have met and closed it
+pub record MeetAndClose (workers : List Worker) (used : ℕ) : Type 0 where
+  pub met : HaveMet workers used
+  pub closes : HaveClosed workers used

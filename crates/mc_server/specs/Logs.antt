@@ -14,7 +14,7 @@ use Rattle.mc_model.specs.Settings.{Configuration}
 use Rattle.mc_model.specs.State.{TableState}
 use Rattle.mc_net.specs.Running.{HasBeenServedBy, IsEmptyLoop, each_followed_by}
 use Rattle.mc_net.specs.declared.front.Front.{Front}
-use Rattle.mc_server.specs.Crew.{AreWorkersOf, HasDoneNothing, HaveMet}
+use Rattle.mc_server.specs.Crew.{AreWorkersOf, HasDoneNothing, HaveClosed, HaveMet}
 use Rattle.mc_server.specs.declared.generations.Served.{Served}
 use Rattle.mc_server.specs.declared.generations.Served.TheVariants.{Done, Full}
 use Rattle.uc_worker.specs.Cited.{entries}
@@ -23,7 +23,6 @@ use Rattle.uc_log.specs.declared.pass.Pass.{Pass}
 use Rattle.uc_log.specs.Passes.{IsNew, IsUnusedPass, seat}
 use Rattle.uc_worker.specs.AllWorkers.{AreOnOneRun}
 use Rattle.uc_worker.specs.Going.{CatchesUp, Continues}
-use Rattle.uc_worker.specs.TurningOver.{HaveOneHistory, IsUpToDateAt}
 use Rattle.uc_worker.specs.Worker.{history_of, openings_of, seat_of, tables_of}
 use Rattle.uc_worker.specs.declared.turning_over.Base.{Base}
 use Rattle.uc_worker.specs.declared.turning_over.Next.{Next}
@@ -55,18 +54,11 @@ OpensOver log tables pass result = MatchResult result
     × (openings_of worker ≡ tables))
     (λ fault. fault ≡ Memory)
 
--- A log is closed: its workers, later on, have announced nothing more, and have one history, of
--- this many places, in which all stands that they have learned. So each command that one of them
--- has answered stands in it; one run of the log, from its opening, has all that they have done; and
--- these tables are the ones that the log was opened over, each after its tenant's own commands in
--- that history.
+-- Workers have closed their log, and these tables are the ones that it was opened over, each after
+-- its tenant's own commands in the history that they have.
 pub record Closes (workers : List Worker) (used : ℕ) (tables : List TableState) : Type 0 where
-  pub closed : List Worker
-  pub later : AllZip CatchesUp workers closed
-  pub up_to_date : All (IsUpToDateAt used) closed
-  pub same : HaveOneHistory closed
-  pub run : AreOnOneRun closed
-  pub stands : (first : Worker) → slice_get closed 0 ≡ Some first →
+  pub closes : HaveClosed workers used
+  pub stands : (first : Worker) → slice_get closes.closed 0 ≡ Some first →
       EachStands (openings_of first) (entries (history_of first)) tables
 
 -- Logs with these settings were served one after another, and each is closed: this many logs, of
@@ -115,7 +107,8 @@ pub record IsAnsweredBy (who : InTurn) (ended : List Connection) : Type 0 where
 
 -- Tenants were served over at most so many logs with these settings, one after another (0: without
 -- an end), and this many places were used in total: those of the earlier logs, and those of the
--- last one, whose workers have met, and whose run has all that they have done while they served.
+-- last one, whose workers have met and closed it, and of which one run has all that they have done
+-- while they served.
 pub record WereServed (settings : Configuration) (most number : ℕ) : Type 0 where
   pub logs : ℕ
   pub places : ℕ
@@ -126,6 +119,7 @@ pub record WereServed (settings : Configuration) (most number : ℕ) : Type 0 wh
   pub few : (most ≡ 0) ⊎ (logs < most)
   pub run : AreOnOneRun served
   pub met : HaveMet served last
+  pub closes : HaveClosed served last
   pub ended : List (List Connection)
   pub answered : AllZip IsAnsweredBy all ended
   pub in_total : number ≡ places + last
@@ -158,7 +152,7 @@ CanBeFollowed used places worker =
     (length (history_of worker) ≡ used) × HaveRoom (tables_of worker) places
 
 -- the last log was served until no connection was left, one run of it has all that its workers have
--- done, and they have met: this many places of it were used
+-- done, and they have met and closed it: this many places of it were used
 pub record EndsThere (settings : Configuration) (logs places last : ℕ) (front : Front) :
     Type 0 where
   pub all : List InTurn
@@ -166,6 +160,7 @@ pub record EndsThere (settings : Configuration) (logs places last : ℕ) (front 
   pub serves : ServesLast settings logs places all served
   pub run : AreOnOneRun served
   pub met : HaveMet served last
+  pub closes : HaveClosed served last
   pub by : AreServedBy all front
   pub over : All IsEmptyLoop front.event_loops.items
 

@@ -2,7 +2,7 @@
 ghost use Rattle.std.specs.List.{AllZip};
 ghost use Rattle.std.specs.Prelude.{◌≡◌, [], All, IfOk, IsOkUnless, MatchResult, Ok, length, map, slice_get, Some, ℕ};
 ghost use Rattle.mc_model.specs.declared.fault.Fault.TheVariants as faults;
-ghost use Rattle.mc_server.specs.Crew.{HaveMet, IsCrew, MeetsAnother};
+ghost use Rattle.mc_server.specs.Crew.{AgreesWith, AreWorkersOf, MeetAndClose, MeetsAnother};
 ghost use Rattle.mc_server.specs.Logs.{AreOpenedOver, FitsOver, OpensOver, tables_over};
 ghost use Rattle.uc_worker.specs.Going.{CatchesUp};
 ghost use Rattle.uc_worker.specs.declared.worker.Worker.{Worker};
@@ -15,6 +15,7 @@ use std::alloc::Global;
 use std::thread;
 use std::thread::Threads;
 use uc_log::{Log, Pass};
+use uc_worker::all_workers::find_run_of_all;
 use uc_worker::{Base, Hashing, Open, Worker};
 
 /// The log that workers are opened on, and the base that they are opened over, if there is one.
@@ -85,7 +86,8 @@ pub(crate) fn open_workers<'a, R: Threads + Sync>(
     requires count { length passes.items ≡ log.now.settings.workers }
     requires base { FitsOver log.now base.now }
     ensures outcome { MatchResult result
-        (λ workers. AreOpenedOver log.now.settings log.now (tables_over log.now base.now) workers.items)
+        (λ workers. AreOpenedOver log.now.settings log.now (tables_over log.now base.now)
+        workers.items)
         (λ fault. fault ≡ faults.Memory) }
 {
     let below = Below { log, base };
@@ -112,7 +114,8 @@ fn meet_others<'a>(
     requires log { AreOfLog one.old.log.now others.items }
     requires whole { IsUpToDate one.old }
     ensures outcome { MatchResult result
-        (λ met. AllZip (MeetsAnother one.old one.new) others.entry.items met.items × IsUpToDate one.new)
+        (λ met. AllZip (MeetsAnother one.old one.new) others.entry.items met.items
+        × IsUpToDate one.new)
         (λ fault. fault ≡ faults.Memory) }
     ensures later { CatchesUp one.old one.new }
 {
@@ -125,14 +128,44 @@ fn meet_others<'a>(
     Ok(met)
 }
 
-/// Lets the last worker catch up and meet all others until it learns nothing more by that, so that
-/// all have the same history. Returns the length of that history, which has all that any of them
-/// had.
+/// Lets a worker meet the others until it learns nothing more by that, so that all have the same
+/// history. Returns the others.
+///
+/// Returns `Memory` if memory runs out; some of them may not have met it then.
+fn meet_until_all_agree<'a>(
+    alloc: Global,
+    one: &mut Worker<'a>,
+    others: Vec<Worker<'a>>,
+) -> Result<Vec<Worker<'a>>, Fault>
+    requires log { AreOfLog one.old.log.now others.items }
+    requires whole { IsUpToDate one.old }
+    ensures outcome { MatchResult result
+        (λ met. AllZip (AgreesWith one.new) others.entry.items met.items × IsUpToDate one.new)
+        (λ fault. fault ≡ faults.Memory) }
+    ensures later { CatchesUp one.old one.new }
+{
+    let mut others = others;
+    loop {
+        let known = one.history().len();
+        others = meet_others(alloc, one, others)?;
+        if one.history().len() == known {
+            return Ok(others);
+        }
+    }
+}
+
+/// Lets all workers of a log meet until none of them learns anything more by that, and so closes
+/// the log: they have one history then, which has all that any of them had, and one run has all
+/// that they have done. Returns the length of that history.
 ///
 /// Returns `Memory` if memory runs out.
-pub(crate) fn meet_all(alloc: Global, workers: Vec<Worker<'_>>) -> Result<usize, Fault>
-    requires { IsCrew workers.items }
-    ensures outcome { MatchResult result (HaveMet workers.entry.items)
+pub(crate) fn meet_and_close(
+    alloc: Global,
+    log: &Log,
+    workers: Vec<Worker<'_>>,
+) -> Result<usize, Fault>
+    requires { AreWorkersOf log.now.settings log.now workers.items }
+    ensures outcome { MatchResult result (MeetAndClose workers.entry.items)
         (λ fault. fault ≡ faults.Memory) }
 {
     let mut others = workers;
@@ -140,11 +173,9 @@ pub(crate) fn meet_all(alloc: Global, workers: Vec<Worker<'_>>) -> Result<usize,
         unreachable!()
     };
     last.catch_up(&mut Open)?;
-    loop {
-        let known = last.history().len();
-        others = meet_others(alloc, &mut last, others)?;
-        if last.history().len() == known {
-            return Ok(known);
-        }
-    }
+    let mut workers = meet_until_all_agree(alloc, &mut last, others)?;
+    let used = last.history().len();
+    workers.push(last)?;
+    find_run_of_all(log, &mut workers);
+    Ok(used)
 }

@@ -13,7 +13,7 @@ ghost use Rattle.uc_log.specs.Passes.{IsNew, IsUnusedPass};
 ghost use Rattle.uc_worker.specs.AllWorkers.{AreOnOneRun};
 ghost use Rattle.uc_worker.specs.Going.{CatchesUp, Continues};
 
-use crate::crew::{meet_all, open_workers};
+use crate::crew::{meet_and_close, open_workers};
 use crate::scraping::LogWatch;
 use mc_model::Fault;
 use mc_net::{Begin, Ended, Front};
@@ -155,7 +155,7 @@ fn serve_log<'a, R: Threads + Wait + Clock + Sync, B: Begin<S>, S>(
 {
     let (workers, ended) = serve_part(rt, alloc, front, log, workers, is_last, begin, state)?;
     match ended {
-        Ended::Done => return Ok(Served::Done(meet_all(alloc, workers)?)),
+        Ended::Done => return Ok(Served::Done(meet_and_close(alloc, log, workers)?)),
         Ended::Full => watch.note_close(rt),
     }
     let mut workers = workers;
@@ -173,7 +173,7 @@ fn serve_log<'a, R: Threads + Wait + Clock + Sync, B: Begin<S>, S>(
         &FreeClosed,
         &mut nothing,
     )?;
-    Ok(Served::Done(meet_all(alloc, workers)?))
+    Ok(Served::Done(meet_and_close(alloc, log, workers)?))
 }
 
 /// Opens the workers of a log, over the tables of the base if there is one, and serves it as

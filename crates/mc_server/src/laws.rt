@@ -1,19 +1,17 @@
 //! What follows of the logs that tenants were served on. A law is the contract of a function with
 //! an empty body, or with calls of the laws from which it follows.
-ghost use Rattle.mc_server.specs.CoreRuns.{AnnouncesInServedOrder, ClosedLogsAnswerOwn, ClosedLogsAreCoreRuns, ClosedLogsDecidedNoMore, LastLogsAreCoreRuns, RunsKeepOwnOrder};
+ghost use Rattle.mc_server.specs.CoreRuns.{AnnouncesInServedOrder, ClosedLogsAreCoreRuns, ClosedLogsDecidedNoMore, LastLogsAreCoreRuns, RunsKeepOwnOrder};
 
 /// What the workers of a log have done, of all logs of a run of `wfmc` that ends, is one run of the
-/// core, the machine of the headline: each log that another has followed, and the last one. A no-op
-/// belongs there to a tenant of its own, after the others.
+/// core, the machine of the headline, over the tables that the log was opened over: each log that
+/// another has followed, and the last one. The core's log is the history that its workers have, and
+/// the replies to their own commands are those that `Worker::submit` gives.
 pub fn each_log_is_one_run_of_the_core()
     ensures closed { ClosedLogsAreCoreRuns }
     ensures last { LastLogsAreCoreRuns }
-
-    // The run of a closed log answers its workers' own commands, over the tables that it was opened
-    // over, with the replies that `Worker::submit` gives.
-    ensures replies { ClosedLogsAnswerOwn }
 {
     uc_worker::all_workers::all_workers_run_the_core();
+    uc_worker::laws::workers_go_on();
 }
 
 /// Nothing is decided on a closed log behind the history that the next one goes on from, though it

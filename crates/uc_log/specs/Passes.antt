@@ -1,6 +1,6 @@
 -- What contracts say of passes. The log is that of Herlihy's universal construction (Wait-Free
 -- Synchronization, TOPLAS 1991); passes and cells are this project's profile.
-use Rattle.std.specs.Prelude.{◌≡◌, ℕ, List, [], None, Some, slice_get}
+use Rattle.std.specs.Prelude.{◌≡◌, ℕ, List, [], Some, slice_get}
 use Rattle.mc_model.specs.declared.command.Command.{Command}
 use Rattle.mc_model.specs.declared.id.Ticket.{Ticket}
 use Rattle.mc_model.specs.declared.request.Entry.{Entry}
@@ -75,11 +75,6 @@ abbrev pub next_sighting : Log → Pass → ℕ → Command → Sighting
 next_sighting log pass tenant command =
     sighting (next_ticket pass) (Some (next_entry pass tenant command))
     (row_of log (next_ticket pass))
-
--- a sighting of the cell of its next ticket, if that stays empty for good: the ticket then stands
--- for a no-op, an entry that belongs to nobody
-abbrev pub next_no_op : Log → Pass → Sighting
-next_no_op log pass = sighting (next_ticket pass) None (row_of log (next_ticket pass))
 
 -- the unused pass of the worker of this number
 abbrev pub IsNew : Log → ℕ → Pass → Type 0

@@ -1,5 +1,6 @@
 //! The part of a log that its workers share.
 ghost use Rattle.std.specs.Prelude.{◌≡◌};
+ghost use Rattle.mc_model.specs.Settings.{IsLawful};
 
 use mc_model::Settings;
 use uc_cells::Cells;
@@ -13,6 +14,7 @@ pub struct Log {
     pub(crate) cells: Cells,
     pub(crate) places: Places,
     ghost sized: { (cells.workers ≡ settings.workers) × (cells.places ≡ settings.places) },
+    ghost lawful: { IsLawful settings },
 }
 
 impl Log {

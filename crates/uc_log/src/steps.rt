@@ -3,7 +3,7 @@ ghost use Rattle.std.specs.Prelude.{◌≡◌, ◌≢◌, ◌⊎◌, ◌<◌, �
 ghost use Rattle.mc_model.specs.declared.fault.Fault.TheVariants as faults;
 ghost use Rattle.mc_model.specs.declared.shown.Phase.TheVariants as phase;
 ghost use Rattle.mc_model.specs.Lawful.{HasRoom};
-ghost use Rattle.uc_log.specs.Passes.{IsOf, Keeps, desk, learned, next_no_op, next_sighting, own_sightings, row_of, seat, size, state, worker};
+ghost use Rattle.uc_log.specs.Passes.{IsOf, Keeps, desk, learned, next_sighting, own_sightings, row_of, seat, size, state, worker};
 ghost use Rattle.uc_places.specs.Calls.{Announces, Looks, Proposes, ReadsPlace, ShareOneRun, Tells, WitnessWith, Witnesses};
 ghost use Rattle.uc_places.specs.Run.{part_of};
 
@@ -51,36 +51,6 @@ impl Log {
         )?;
         pass.sealed.push_reserved(seen.seal());
         pass.desk.announce(&self.places);
-        Ok(())
-    }
-
-    /// Announces a no-op: leaves the cell of the worker's next ticket empty for good, and announces
-    /// that ticket. Its entry belongs to nobody.
-    ///
-    /// Returns `Memory` if memory runs out, and `Taken` if the cell holds an entry. Either way
-    /// nothing is announced.
-    pub fn announce_no_op(&self, alloc: Global, pass: &mut Pass) -> Result<(), Fault>
-        requires of { IsOf self.now pass.old }
-        requires idle { (state pass.old).phase ≡ phase.Idle }
-        requires room { HasRoom (size pass.old) (state pass.old) }
-        ensures of { IsOf self.now pass.new }
-        ensures announced { OnOk result (Announces (desk pass.old) (desk pass.new)) }
-        // The cell of the announced ticket holds no entry.
-        ensures empty { OnOk result
-            (own_sightings pass.new
-            ≡ own_sightings pass.old ++ next_no_op self.now pass.old ∷ []) }
-        ensures faults { IfErr result (λ fault. (fault ≡ faults.Memory) ⊎ (fault ≡ faults.Taken)) }
-        ensures unchanged { OnErr result (pass.new ≡ pass.old) }
-    {
-        let (worker, number) = (pass.desk.worker(), pass.desk.announced());
-        let next = Ticket { worker, number };
-        let seen = self.cells.see(alloc, next)?;
-        if seen.entry().is_some() {
-            return Err(Fault::Taken);
-        }
-        pass.sealed.push_reserved(seen.seal());
-        let places = &self.places;
-        pass.desk.announce(places);
         Ok(())
     }
 

@@ -96,6 +96,12 @@ logs_stay_before one one_now others others_now same still logs k d below =
     ap (λ (lent : Bor Log). lent.now) (AllZip-get_or IsAsBefore others others_now k d d still inside).log
     ∙ (logs k d inside ∙ sym (ap (λ (lent : Bor Log). lent.now) same))
 
+pub all_as_before : (old new : List Worker) → AllZip TakesNoStep old new → AllZip IsAsBefore old new
+all_as_before [] [] still = tt
+all_as_before [] (y ∷ new) still = absurd still
+all_as_before (x ∷ old) [] still = absurd still
+all_as_before (x ∷ old) (y ∷ new) still = (as_before x y still.0, all_as_before old new still.1)
+
 pub all_quiet : (old new : List Worker) → AllZip TakesNoStep old new → AllZip CatchesUp old new
 all_quiet [] [] still = tt
 all_quiet [] (y ∷ new) still = absurd still

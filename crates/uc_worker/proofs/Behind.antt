@@ -1,23 +1,19 @@
 -- Whoever decides a place learns it, so somebody always knows all places that are decided.
-use Rattle.std.proofs.Common.{◌≡◌, ℕ, zero, suc, ◌<◌, ◌≤◌, ◌⊎◌, List, [], ◌∷◌, All, Option, Some, None, length, map, slice_get, slice_set, inl, inr, refl, subst, sym, ap, ◌∙◌, arith, length-append, le_refl}
+use Rattle.std.proofs.Common.{◌≡◌, ℕ, zero, suc, ◌<◌, ◌≤◌, ◌⊎◌, List, [], ◌∷◌, All, Option, Some, None, length, slice_get, slice_set, inl, inr, refl, subst, sym, ap, ◌∙◌, arith, length-append, le_refl}
 use Rattle.std.proofs.Math.Decide.{dec_le}
-use Rattle.std.proofs.lemmas.Option.{get_or_from_slice_get, none-some, same_Some, slice_get-map, slice_get_within}
-use Rattle.std.specs.Option.{option_map}
+use Rattle.std.proofs.lemmas.Option.{get_or_from_slice_get, none-some, same_Some, slice_get_within}
 use Rattle.lists.proofs.Public.{begins_longer, beyond, set_elsewhere, set_here}
 use Rattle.mc_model.specs.declared.id.Ticket.{Ticket}
 use Rattle.mc_model.specs.declared.shown.LogSize.{LogSize}
 use Rattle.mc_model.specs.declared.shown.ShownState.{ShownState}
 use Rattle.mc_model.specs.declared.shown.WorkerState.{WorkerState}
-use Rattle.mc_model.specs.Helping.{LogLaw}
 use Rattle.mc_model.specs.Lawful.{IsWorker, LeadOn, ShownEvent, Step, announces, decided_with, looks, next, proposes, reads, stops, with_worker}
 use Rattle.mc_model.specs.Shown.{new_log, proposal, propose, read}
-use Rattle.model_lemmas.proofs.Waiting.{is_lawful}
 use Rattle.uc_log.specs.declared.log.Log.{Log}
-use Rattle.uc_log.specs.Passes.{size_of}
 use Rattle.uc_worker.specs.declared.worker.Worker.{Worker}
 use Rattle.uc_worker.specs.AllWorkers.{AreAllOf, AreOnOneRun, NothingIsDecidedBehindAll, own_part}
 use Rattle.uc_worker.specs.TurningOver.{IsUpToDateAt}
-use Rattle.uc_worker.proofs.OneCoreRun.{reached}
+use Rattle.uc_worker.proofs.PartsOfOneRun.{lawful, shown_at, sized, some}
 
 -- a worker has learned all places that are decided, or none is
 abbrev SomebodyKnowsAll : ShownState → Type 0
@@ -95,48 +91,37 @@ few_decided size events log places run few = by_known (known_on size (new_log si
     by_known (inr (number, worker, at, all)) = let least = few number worker at in omega arith
 
 module _ (log : Log) (workers : List Worker) (one : AreOnOneRun workers) (places : ℕ) (all : AreAllOf log workers) (done : All (IsUpToDateAt places) workers) where
-  part_at : (place : ℕ) (worker : Worker) → slice_get workers place ≡ Some worker → slice_get (map own_part workers) place ≡ Some (own_part worker)
-  part_at place worker at = slice_get-map own_part workers place ∙ ap (option_map own_part) at
-
-  size_at : (place : ℕ) (worker : Worker) → slice_get workers place ≡ Some worker → one.0 ≡ size_of log
-  size_at place worker at = sym (one.2.sized place (own_part worker) (part_at place worker at)) ∙ (worker.of.1 ∙ ap size_of (all.of place worker at))
-
-  shown_at : (place : ℕ) (worker : Worker) → slice_get workers place ≡ Some worker → IsWorker one.1 place (own_part worker).state
-  shown_at place worker at = subst (λ (number : ℕ). IsWorker one.1 number (own_part worker).state) (all.numbers place worker at)
-      (one.2.shown place (own_part worker) (part_at place worker at))
-
-  lawful : LogLaw one.0 one.1
-  lawful = is_lawful one.0 one.1 (reached one.0 one.2.run (new_log one.0) one.1 ([], refl) one.2.lead)
-
   -- each has learned as many
   learned_at : (place : ℕ) (worker : Worker) → slice_get workers place ≡ Some worker → length (own_part worker).state.learned ≡ places
   learned_at place worker at =
       let is : IsUpToDateAt places worker = subst (IsUpToDateAt places) (get_or_from_slice_get workers place worker worker at) (done place worker (slice_get_within workers place worker at)) in
       omega (arith, is.0, is.1)
 
+  by_worker : (number : ℕ) (state : WorkerState) → IsWorker one.1 number state → (found : Option Worker) → slice_get workers number ≡ found → number < length workers →
+      length state.learned ≤ places
+  by_worker number state there None is inside = absurd (let out = beyond workers number is in omega (arith, out, inside))
+  by_worker number state there (Some worker) is inside =
+      let same : (own_part worker).state ≡ state = same_Some _ _ (sym (shown_at log workers all one number worker is) ∙ there) in
+      let count = ap (λ (s : WorkerState). length s.learned) same in
+      omega (arith, count, learned_at number worker is)
+
+  few : (number : ℕ) (state : WorkerState) → IsWorker one.1 number state → length state.learned ≤ places
+  few number state there =
+      let within = slice_get_within one.1.workers number state there in
+      let wide : one.0.workers ≡ log.settings.workers = ap (λ (z : LogSize). z.workers) (sized log workers all one) in
+      let many = (lawful log workers all one).many in
+      by_worker number state there (slice_get workers number) refl (omega (arith, within, many, wide, all.many))
+
   exact : (first : Worker) → slice_get workers 0 ≡ Some first → length one.1.decided ≡ places
   exact first at =
-      let longer = begins_longer one.1.decided (own_part first).state.learned (lawful.each 0 (own_part first).state (shown_at 0 first at)).begins in
+      let longer = begins_longer one.1.decided (own_part first).state.learned
+      ((lawful log workers all one).each 0 (own_part first).state (shown_at log workers all one 0 first at)).begins in
       let known = learned_at 0 first at in
       let most = few_decided one.0 one.2.run one.1 places one.2.lead few in omega arith
-    where
-      by_worker : (number : ℕ) (state : WorkerState) → IsWorker one.1 number state → (found : Option Worker) → slice_get workers number ≡ found → number < length workers →
-          length state.learned ≤ places
-      by_worker number state there None is inside = absurd (let out = beyond workers number is in omega (arith, out, inside))
-      by_worker number state there (Some worker) is inside =
-          let same : (own_part worker).state ≡ state = same_Some _ _ (sym (shown_at number worker is) ∙ there) in
-          let count = ap (λ (s : WorkerState). length s.learned) same in
-          omega (arith, count, learned_at number worker is)
-
-      few : (number : ℕ) (state : WorkerState) → IsWorker one.1 number state → length state.learned ≤ places
-      few number state there =
-          let within = slice_get_within one.1.workers number state there in
-          let wide : one.0.workers ≡ log.settings.workers = ap (λ (z : LogSize). z.workers) (size_at 0 first at) in
-          by_worker number state there (slice_get workers number) refl (omega (arith, within, lawful.many, wide, all.many))
 
 pub nothing_behind_all : NothingIsDecidedBehindAll
-nothing_behind_all log workers one places all some done = by_first (slice_get workers 0) refl
+nothing_behind_all log workers one places all done = by_first (slice_get workers 0) refl
   where
     by_first : (found : Option Worker) → slice_get workers 0 ≡ found → length one.1.decided ≡ places
-    by_first None is = absurd (let out = beyond workers 0 is in omega (arith, out, some))
+    by_first None is = absurd (let out = beyond workers 0 is in let least = some log workers all one in omega (arith, out, least))
     by_first (Some first) is = exact log workers one places all done first is

@@ -8,11 +8,13 @@ pub mod Replies
 pub mod Counting
 pub mod Lacking
 pub mod Owning
-pub mod NoOps
+pub mod Closing
 pub mod TurningOver
 pub mod AllWorkers
+pub mod PartsOfOneRun
 pub mod RunsOfTheCore
 pub mod OneCoreRun
 pub mod OwnReplies
 pub mod Unsettled
 pub mod Behind
+pub mod ClosedRuns

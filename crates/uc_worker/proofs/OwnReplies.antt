@@ -1,5 +1,5 @@
 -- What a run of the core answers to a worker's own commands follows from the worker's history.
-use Rattle.std.proofs.Common.{◌≡◌, ◌≢◌, ℕ, ◌<◌, ◌≤◌, List, length, take, None, Option, Some, slice_get, refl, sym, ap, subst, ◌∙◌, arith}
+use Rattle.std.proofs.Common.{◌≡◌, ℕ, zero, suc, ◌<◌, ◌≤◌, List, [], ◌∷◌, ◌++◌, length, take, None, Option, Some, slice_get, refl, sym, ap, subst, ◌∙◌, arith}
 use Rattle.std.proofs.lemmas.Option.{same_Some, slice_get-map, slice_get_within}
 use Rattle.std.specs.Option.{option_map, option_map_or}
 use Rattle.mc_model.specs.declared.command.Command.{Command}
@@ -7,23 +7,21 @@ use Rattle.mc_model.specs.declared.reply.Reply.{Reply}
 use Rattle.mc_model.specs.declared.request.Entry.{Entry}
 use Rattle.mc_model.specs.declared.settings.Limits.{Limits}
 use Rattle.mc_model.specs.declared.shown.ShownState.{ShownState}
-use Rattle.mc_model.specs.Helping.{LogLaw}
 use Rattle.mc_model.specs.History.{answer_from}
-use Rattle.mc_model.specs.Lawful.{IsReached, IsWorker, announced_by}
+use Rattle.mc_model.specs.Lawful.{IsReached, IsWorker}
 use Rattle.mc_model.specs.Log.{own}
 use Rattle.mc_model.specs.Replay.{reply_to}
 use Rattle.mc_model.specs.Settings.{Configuration}
 use Rattle.mc_model.specs.State.{TableState}
-use Rattle.model_lemmas.proofs.Waiting.{is_lawful}
 use Rattle.uc_cells.specs.Sighting.{Sighting, entries}
 use Rattle.uc_core.specs.Asked.{IsOfSettings}
 use Rattle.uc_core.specs.Core.{ReplayState, core_size, entry_under, log_of}
 use Rattle.uc_core.specs.Headline.{HasReply, OwnAreAnswered}
 use Rattle.uc_core.specs.Run.{Runs, replayed_by}
 use Rattle.uc_laws.specs.Over.{ByEventsOver, EachHasATable, IsAnswerOver, OfEveryRunOver, RepliesAreAnswersOver}
-use Rattle.uc_places.specs.CoreRun.{core_over, entry_by}
+use Rattle.uc_places.specs.CoreRun.{core_over}
 use Rattle.uc_worker.specs.declared.worker.Worker.{Worker}
-use Rattle.uc_worker.specs.AllWorkers.{DoOneCoreRun, OwnHaveTheirReplies, own_part, said_in, said_under}
+use Rattle.uc_worker.specs.AllWorkers.{DoOneCoreRun, OwnHaveTheirReplies, own_part}
 use Rattle.uc_worker.specs.TurningOver.{HaveOneHistory}
 use Rattle.uc_worker.specs.Worker.{history_of}
 
@@ -34,36 +32,35 @@ pub record Laws : Type 0 where
   pub shown : OfEveryRunOver (λ tables core given. IsReached (core_size core) core.shown)
   pub settings : ByEventsOver (λ settings events core. IsOfSettings settings core)
 
-module _ (laws : Laws) (settings : Configuration) (nobody : ℕ) (tables : List TableState) (workers : List Worker)
-    (one : DoOneCoreRun settings nobody tables workers) (enough : length settings.tenants ≤ length tables) (same : HaveOneHistory workers)
-    (number place : ℕ) (worker : Worker) (seen : Sighting) (entry : Entry) (at : slice_get workers number ≡ Some worker)
-    (here : slice_get (history_of worker) place ≡ Some seen) (mine : seen.ticket.worker ≡ number) (is : seen.entry ≡ Some entry) (apart : entry.tenant ≢ nobody) where
+-- the first entries of a list that begins with a history's
+first_entries : (history : List Sighting) (rest : List (Option Entry)) (first : ℕ) → first ≤ length history →
+    take first (entries history ++ rest) ≡ entries (take first history)
+first_entries [] [] zero few = refl
+first_entries [] (entry ∷ rest) zero few = refl
+first_entries (seen ∷ history) rest zero few = refl
+first_entries [] rest (suc first) few = absurd (omega (arith, few))
+first_entries (seen ∷ history) rest (suc first) few = ap (λ (list : List (Option Entry)). seen.entry ∷ list) (first_entries history rest first (omega (arith, few)))
+
+module _ (laws : Laws) (settings : Configuration) (tables : List TableState) (workers : List Worker)
+    (one : DoOneCoreRun settings tables workers) (enough : length settings.tenants ≤ length tables) (same : HaveOneHistory workers)
+    (number place : ℕ) (worker : Worker) (seen : Sighting) (at : slice_get workers number ≡ Some worker)
+    (here : slice_get (history_of worker) place ≡ Some seen) (mine : seen.ticket.worker ≡ number) where
   run : Runs (core_over settings tables) one.core.events one.core.core one.core.given
   run = one.core.runs
 
   of_settings : IsOfSettings settings one.core.core
   of_settings = laws.settings settings tables one.core.events one.core.core one.core.given run
 
-  lawful : LogLaw (core_size one.core.core) one.core.core.shown
-  lawful = is_lawful (core_size one.core.core) one.core.core.shown (laws.shown settings tables one.core.events one.core.core one.core.given run)
-
   shows : IsWorker one.core.core.shown number (own_part worker).state
   shows = subst (λ (log : ShownState). IsWorker log number (own_part worker).state) (sym one.core.shown) (one.shown number worker at)
 
   decided : slice_get one.core.core.shown.decided place ≡ Some seen.ticket
-  decided = ap (λ (log : ShownState). slice_get log.decided place) one.core.shown ∙ (one.replayed same number place worker seen at here).0
+  decided = ap (λ (log : ShownState). slice_get log.decided place) one.core.shown ∙ one.decided number worker at place seen here
 
-  said : said_under nobody workers seen.ticket ≡ (entry.tenant, entry.command)
-  said = sym (one.replayed same number place worker seen at here).1 ∙ ap (said_in nobody) is
-
-  -- what stands there
-  stands : entry_under one.core.core seen.ticket ≡ Some (entry_by (said_under nobody workers) seen.ticket)
-  stands = one.core.entries seen.ticket.worker seen.ticket.number
-      (subst (λ (log : ShownState). seen.ticket.number < announced_by log seen.ticket.worker) one.core.shown (lawful.announced place seen.ticket decided))
-
-  in_log : slice_get (log_of one.core.core) place ≡ Some (Some (entry_by (said_under nobody workers) seen.ticket))
-  in_log = slice_get-map (entry_under one.core.core) one.core.core.shown.decided place ∙ ap (option_map (entry_under one.core.core)) decided
-      ∙ ap (λ (o : Option Entry). Some o) stands
+  -- what stands there is what was put there
+  in_log : slice_get (log_of one.core.core) place ≡ Some seen.entry
+  in_log = slice_get-map (entry_under one.core.core) one.core.core.shown.decided place ∙ (ap (option_map (entry_under one.core.core)) decided
+      ∙ ap (λ (entry : Option Entry). Some entry) (one.entries seen.ticket seen (one.as_put number place worker seen at here mine)))
 
   -- the worker has replayed it
   inside : place < length (history_of worker)
@@ -89,30 +86,22 @@ module _ (laws : Laws) (settings : Configuration) (nobody : ℕ) (tables : List 
 
   -- and its reply is the answer
   module _ (reply : Reply) (answers : IsAnswerOver tables one.core.core number place reply) where
-    its : answers.entry ≡ entry_by (said_under nobody workers) seen.ticket
-    its = same_Some _ _ (same_Some _ _ (sym answers.found ∙ in_log))
+    there : seen.entry ≡ Some answers.entry
+    there = sym (same_Some _ _ (sym answers.found ∙ in_log))
 
-    tenant : answers.entry.tenant ≡ entry.tenant
-    tenant = ap (λ (e : Entry). e.tenant) its ∙ ap (λ (s : ℕ × Command). s.0) said
+    before : own answers.entry.tenant (take place (log_of one.core.core)) ≡ own answers.entry.tenant (entries (take place (history_of worker)))
+    before =
+        let begins = one.replayed same number worker at in let within = inside in
+        ap (own answers.entry.tenant) (ap (take place) begins.1 ∙ first_entries (history_of worker) begins.0 place (omega (arith, within)))
 
-    command : answers.entry.command ≡ entry.command
-    command = ap (λ (e : Entry). e.command) its ∙ ap (λ (s : ℕ × Command). s.1) said
-
-    opens : slice_get tables entry.tenant ≡ Some answers.opening
-    opens = ap (slice_get tables) (sym tenant) ∙ answers.began
-
-    before : own entry.tenant (take place (log_of one.core.core)) ≡ own entry.tenant (entries (take place (history_of worker)))
-    before = one.commands same number entry.tenant place worker at apart (let within = inside in omega (arith, within))
-
-    given_so : Some reply ≡ reply_to tables (entries (take place (history_of worker))) (Some entry)
+    given_so : Some reply ≡ reply_to tables (entries (take place (history_of worker))) seen.entry
     given_so =
-        ap (λ (r : Reply). Some r) (answers.replied ∙ (λ i. answer_from answers.opening (own (tenant i) (take place (log_of one.core.core))) (command i))
-        ∙ ap (λ (list : List Command). answer_from answers.opening list entry.command) before)
-        ∙ sym (ap (option_map (λ (opening : TableState). answer_from opening (own entry.tenant (entries (take place (history_of worker)))) entry.command)) opens)
+        ap (λ (r : Reply). Some r) (answers.replied ∙ ap (λ (list : List Command). answer_from answers.opening list answers.entry.command) before)
+        ∙ (sym (ap (option_map (λ (opening : TableState). answer_from opening (own answers.entry.tenant (entries (take place (history_of worker)))) answers.entry.command)) answers.began)
+        ∙ ap (reply_to tables (entries (take place (history_of worker)))) (sym there))
 
 pub own_have_their_replies : Laws → OwnHaveTheirReplies
-own_have_their_replies laws settings nobody tables workers one enough same number place worker seen entry at here mine is apart =
-    let found = has_reply laws settings nobody tables workers one enough same number place worker seen entry at here mine is apart in
-    let answers = laws.replies settings tables one.core.events one.core.core one.core.given
-    (run laws settings nobody tables workers one enough same number place worker seen entry at here mine is apart) found.0 number place found.1 found.2 in
-    (found.0, found.1, found.2, given_so laws settings nobody tables workers one enough same number place worker seen entry at here mine is apart found.1 answers)
+own_have_their_replies laws settings tables workers one enough same number place worker seen at here mine =
+    let found = has_reply laws settings tables workers one enough same number place worker seen at here mine in
+    let answers = laws.replies settings tables one.core.events one.core.core one.core.given one.core.runs found.0 number place found.1 found.2 in
+    (found.0, found.1, found.2, given_so laws settings tables workers one enough same number place worker seen at here mine found.1 answers)

@@ -10,15 +10,15 @@ use Rattle.mc_model.specs.Legal.{count}
 use Rattle.uc_cells.specs.Sighting.{Sighting}
 use Rattle.uc_log.specs.declared.log.Log.{Log}
 use Rattle.uc_log.specs.declared.pass.Pass.{Pass}
-use Rattle.uc_log.specs.Passes.{learned, next_no_op, next_sighting, own_sightings, state, worker}
-use Rattle.uc_worker.specs.Histories.{KnowsItsOwn}
+use Rattle.uc_log.specs.Passes.{learned, next_entry, next_sighting, own_sightings, state, worker}
+use Rattle.uc_worker.specs.Histories.{HoldsCommand, KnowsItsOwn}
 use Rattle.uc_worker.specs.Waiting.{Decides, LeavesUndecided}
 use Rattle.lists.proofs.Public.{at_longer, at_pushed}
 
 -- a pass that has announced nothing, and an empty history
 pub owns_nothing : (tenants number : ℕ) (put history : List Sighting) → put ≡ [] → history ≡ [] → KnowsItsOwn tenants number put history
 owns_nothing tenants number put history none empty = record {
-  tenant = λ at seen entry here is. absurd (none-some seen (ap (λ (list : List Sighting). slice_get list at) (sym none) ∙ here));
+  command = λ at seen here. absurd (none-some seen (ap (λ (list : List Sighting). slice_get list at) (sym none) ∙ here));
   as_put = λ place seen here mine. absurd (none-some seen (ap (λ (list : List Sighting). slice_get list place) (sym empty) ∙ here));
 }
 
@@ -36,11 +36,11 @@ owns_still tenants old new history same put =
 
 -- one more is put, of a known tenant
 pub owns_pushed : (tenants number : ℕ) (put new : List Sighting) (last : Sighting) (history : List Sighting) → new ≡ put ++ last ∷ [] →
-    ((entry : Entry) → last.entry ≡ Some entry → entry.tenant < tenants) → KnowsItsOwn tenants number put history → KnowsItsOwn tenants number new history
+    HoldsCommand tenants last → KnowsItsOwn tenants number put history → KnowsItsOwn tenants number new history
 owns_pushed tenants number put new last history pushed known own = record {
-  tenant = λ at seen entry here is. ⊎_elim
-      (λ before. own.tenant at seen entry before is)
-      (λ (end : (at ≡ length put) × (last ≡ seen)). known entry (ap (λ (s : Sighting). s.entry) end.1 ∙ is))
+  command = λ at seen here. ⊎_elim
+      (λ before. own.command at seen before)
+      (λ (end : (at ≡ length put) × (last ≡ seen)). subst (HoldsCommand tenants) end.1 known)
       (at_pushed put last seen at (ap (λ (list : List Sighting). slice_get list at) (sym pushed) ∙ here));
   as_put = λ place seen here mine. ap (λ (list : List Sighting). slice_get list seen.ticket.number) pushed
       ∙ at_longer put (last ∷ []) seen.ticket.number seen (own.as_put place seen here mine);
@@ -49,23 +49,22 @@ owns_pushed tenants number put new last history pushed known own = record {
 -- one more is put, or nothing is
 pub owns_either : (tenants : ℕ) (old new : Pass) (last : Sighting) (history : List Sighting) → worker new ≡ worker old →
     (own_sightings new ≡ own_sightings old) ⊎ (own_sightings new ≡ own_sightings old ++ last ∷ []) →
-    ((entry : Entry) → last.entry ≡ Some entry → entry.tenant < tenants) →
-    KnowsItsOwn tenants (worker old) (own_sightings old) history → KnowsItsOwn tenants (worker new) (own_sightings new) history
+    HoldsCommand tenants last → KnowsItsOwn tenants (worker old) (own_sightings old) history → KnowsItsOwn tenants (worker new) (own_sightings new) history
 owns_either tenants old new last history same either known own = ⊎_elim
     (λ none. owns_still tenants old new history same none own)
     (λ more. subst (λ (number : ℕ). KnowsItsOwn tenants number (own_sightings new) history) (sym same)
     (owns_pushed tenants (worker old) (own_sightings old) (own_sightings new) last history more known own))
     either
 
--- the command's tenant is known
-pub known_tenant : (tenants : ℕ) (log : Log) (pass : Pass) (tenant : ℕ) (command : Command) → tenant < tenants →
-    (entry : Entry) → (next_sighting log pass tenant command).entry ≡ Some entry → entry.tenant < tenants
-known_tenant tenants log pass tenant command below entry is =
-    subst (λ (e : Entry). e.tenant < tenants) (same_Some _ entry is) below
-
--- a no-op has none
-pub known_no_op : (tenants : ℕ) (log : Log) (pass : Pass) (entry : Entry) → (next_no_op log pass).entry ≡ Some entry → entry.tenant < tenants
-known_no_op tenants log pass entry is = absurd (none-some entry is)
+-- the next command is one of its tenant
+pub holds_next : (tenants : ℕ) (log : Log) (pass : Pass) (tenant : ℕ) (command : Command) → tenant < tenants →
+    HoldsCommand tenants (next_sighting log pass tenant command)
+holds_next tenants log pass tenant command below = record {
+  some = λ none. none-some (next_entry pass tenant command) (sym none);
+  its = λ entry is.
+      let same : next_entry pass tenant command ≡ entry = same_Some (next_entry pass tenant command) entry is in
+      (ap (λ (e : Entry). e.ticket) (sym same), subst (λ (e : Entry). e.tenant < tenants) same below);
+}
 
 -- a command is decided, or a fault is met
 pub either_put : {T : Type 0} (result : Result T Fault) (log : Log) (old new : Pass) (tenant : ℕ) (command : Command) →
@@ -79,7 +78,7 @@ pub owns_replayed : {T E R : Type 0} (result : Result T E) (tenants number : ℕ
     OnOk result (new ≡ history ++ seen ∷ []) → OnErr result R → (R → new ≡ history) →
     (seen.ticket.worker ≡ number → slice_get put seen.ticket.number ≡ Some seen) → KnowsItsOwn tenants number put history → KnowsItsOwn tenants number put new
 owns_replayed (Ok done) tenants number put history new seen pushed same as_old mine own = record {
-  tenant = own.tenant;
+  command = own.command;
   as_put = λ place other here its. ⊎_elim
       (λ before. own.as_put place other before its)
       (λ (end : (place ≡ length history) × (seen ≡ other)). subst (λ (s : Sighting). slice_get put s.ticket.number ≡ Some s) end.1

@@ -1,7 +1,7 @@
 -- All workers of a log on one run of it: a history of the log, and each worker's subhistory in it
 -- (Herlihy and Wing, Linearizability, TOPLAS 1990).
 use Rattle.std.specs.Option.{option_and_then, option_map_or}
-use Rattle.std.specs.Prelude.{◌≡◌, ◌≢◌, ℕ, ◌<◌, ◌≤◌, All, List, Option, None, Some, length, map, slice_get, take}
+use Rattle.std.specs.Prelude.{◌≡◌, ℕ, ◌<◌, ◌≤◌, All, List, Option, Some, length, map, slice_get, take}
 use Rattle.lists.specs.Lists.{BeginsWith}
 use Rattle.mc_model.specs.declared.command.Command.{Command}
 use Rattle.mc_model.specs.declared.command.Command.TheVariants.{Flush}
@@ -11,13 +11,12 @@ use Rattle.mc_model.specs.declared.request.Entry.{Entry}
 use Rattle.mc_model.specs.declared.shown.LogSize.{LogSize}
 use Rattle.mc_model.specs.declared.shown.ShownState.{ShownState}
 use Rattle.mc_model.specs.Lawful.{IsWorker, LeadOn, ShownEvent}
-use Rattle.mc_model.specs.Log.{own}
 use Rattle.mc_model.specs.Replay.{reply_to}
 use Rattle.mc_model.specs.Settings.{Configuration}
 use Rattle.mc_model.specs.Shown.{new_log}
 use Rattle.mc_model.specs.State.{TableState}
 use Rattle.uc_cells.specs.Sighting.{Sighting, entries}
-use Rattle.uc_core.specs.Core.{CoreState, log_of}
+use Rattle.uc_core.specs.Core.{CoreState, entry_under, log_of}
 use Rattle.uc_core.specs.Run.{Given}
 use Rattle.uc_log.specs.declared.log.Log.{Log}
 use Rattle.uc_places.specs.declared.view.Part.{Part}
@@ -25,8 +24,9 @@ use Rattle.uc_places.specs.CoreRun.{IsCoreRun, log_size}
 use Rattle.uc_places.specs.OneRun.{AreOfAll}
 use Rattle.uc_places.specs.Run.{AreOneRun, HasMade, part_of}
 use Rattle.uc_worker.specs.declared.worker.Worker.{Worker}
+use Rattle.uc_worker.specs.Histories.{AreDecided}
 use Rattle.uc_worker.specs.TurningOver.{HaveOneHistory, IsUpToDateAt}
-use Rattle.uc_worker.specs.Worker.{announced_of, history_of, seat_of}
+use Rattle.uc_worker.specs.Worker.{announced_of, history_of, openings_of, seat_of}
 
 -- what a worker's seat knows of it: its number and state, and all its calls since the opening
 abbrev pub own_part : Worker → Part
@@ -90,51 +90,38 @@ pub record AreAllOf (log : Log) (workers : List Worker) : Type 0 where
   pub numbers : (place : ℕ) (worker : Worker) → slice_get workers place ≡ Some worker →
       (seat_of worker).worker ≡ place
 
--- the tenant and the command of an entry; a no-op, which has none, counts as a flush of this tenant
-abbrev pub said_in : ℕ → Option Entry → ℕ × Command
-said_in nobody (Some entry) = (entry.tenant, entry.command)
-said_in nobody None = (nobody, Flush)
-
 -- what the ticket's worker has put into its cell
 abbrev pub put_under : List Worker → Ticket → Option Sighting
 put_under workers ticket =
     option_and_then (λ (worker : Worker). slice_get (announced_of worker) ticket.number)
     (slice_get workers ticket.worker)
 
--- the tenant and the command that these workers have put under a ticket
-abbrev pub said_under : ℕ → List Worker → Ticket → ℕ × Command
-said_under nobody workers ticket =
-    said_in nobody (option_and_then (λ (seen : Sighting). seen.entry) (put_under workers ticket))
+-- the tenant and the command that these workers have put under a ticket; under one that none of
+-- them has announced, which stands nowhere in their run, a flush of tenant 0
+abbrev pub said_under : List Worker → Ticket → ℕ × Command
+said_under workers ticket = option_map_or (λ (entry : Entry). (entry.tenant, entry.command))
+    (option_and_then (λ (seen : Sighting). seen.entry) (put_under workers ticket)) (0, Flush)
 
 -- how many places the worker of a number has replayed
 abbrev pub places_replayed_by : List Worker → ℕ → ℕ
 places_replayed_by workers number = option_map_or (λ (worker : Worker). length (history_of worker))
     (slice_get workers number) 0
 
--- each of these workers has replayed, at each place of its history, what stands there in the run of
--- the core: that place's ticket, and the tenant and command that its worker has put under it
-abbrev pub HaveReplayed : ℕ → List Worker → ShownState → Type 0
-HaveReplayed nobody workers log = (number place : ℕ) (worker : Worker) (seen : Sighting) →
-    slice_get workers number ≡ Some worker → slice_get (history_of worker) place ≡ Some seen →
-    (slice_get log.decided place ≡ Some seen.ticket)
-    × (said_in nobody seen.entry ≡ said_under nobody workers seen.ticket)
-
--- each tenant's commands, but this one's, at the first places of the core's log are those at the
--- first places of the history of each of these workers
-abbrev pub HaveItsCommands : ℕ → List Worker → CoreState → Type 0
-HaveItsCommands nobody workers core = (number tenant first : ℕ) (worker : Worker) →
-    slice_get workers number ≡ Some worker → tenant ≢ nobody →
-    first ≤ length (history_of worker) →
-    own tenant (take first (log_of core)) ≡ own tenant (entries (take first (history_of worker)))
+-- the log of the core begins with what each of these workers has replayed, entry by entry
+abbrev pub HaveReplayed : List Worker → CoreState → Type 0
+HaveReplayed workers core = (number : ℕ) (worker : Worker) →
+    slice_get workers number ≡ Some worker →
+    BeginsWith (log_of core) (entries (history_of worker))
 
 -- What all workers of a log have done is one run of the core over these tables: its events of the
 -- log are exactly their calls, in each worker's order, under each ticket stands what its worker has
--- put there, and each worker has replayed as many places as its history has.
-pub record DoOneCoreRun (settings : Configuration) (nobody : ℕ) (tables : List TableState)
+-- put there, and each worker has replayed as many places as its history has, which are decided as
+-- it has them. If they have one history, the core's log begins with it.
+pub record DoOneCoreRun (settings : Configuration) (tables : List TableState)
     (workers : List Worker) : Type 0 where
   pub run : List ShownEvent
   pub log : ShownState
-  pub core : IsCoreRun settings tables run log (said_under nobody workers) (places_replayed_by workers)
+  pub core : IsCoreRun settings tables run log (said_under workers) (places_replayed_by workers)
   pub made : (place : ℕ) (worker : Worker) → slice_get workers place ≡ Some worker →
       HasMade run place (own_part worker).calls
   pub shown : (place : ℕ) (worker : Worker) → slice_get workers place ≡ Some worker →
@@ -142,40 +129,60 @@ pub record DoOneCoreRun (settings : Configuration) (nobody : ℕ) (tables : List
   pub as_put : (number place : ℕ) (worker : Worker) (seen : Sighting) →
       slice_get workers number ≡ Some worker → slice_get (history_of worker) place ≡ Some seen →
       seen.ticket.worker ≡ number → put_under workers seen.ticket ≡ Some seen
-  pub replayed : HaveOneHistory workers → HaveReplayed nobody workers log
-  pub commands : HaveOneHistory workers → HaveItsCommands nobody workers core.core
+  pub entries : (ticket : Ticket) (seen : Sighting) → put_under workers ticket ≡ Some seen →
+      entry_under core.core ticket ≡ seen.entry
+  pub decided : (number : ℕ) (worker : Worker) → slice_get workers number ≡ Some worker →
+      AreDecided log (history_of worker)
+  pub replayed : HaveOneHistory workers → HaveReplayed workers core.core
 
--- All workers of a log that are on one run have done one run of the core: with the log's tenants,
--- or with one more, to whom the no-ops belong, which belong to nobody in the log.
+-- All workers of a log that are on one run have done one run of the core with the log's settings.
 abbrev pub AllDoOneCoreRun : Type 0
-AllDoOneCoreRun = (settings : Configuration) (nobody : ℕ) (tables : List TableState) (log : Log)
-    (workers : List Worker) → AreAllOf log workers → AreOnOneRun workers →
-    settings.workers ≡ log.settings.workers → settings.places ≡ log.settings.places →
-    length log.settings.tenants ≤ length settings.tenants → nobody < length settings.tenants →
-    0 < length workers → DoOneCoreRun settings nobody tables workers
+AllDoOneCoreRun = (tables : List TableState) (log : Log) (workers : List Worker) →
+    AreAllOf log workers → AreOnOneRun workers → DoOneCoreRun log.settings tables workers
 
 -- Where all workers of a log are on one run and each has replayed this many places, which are all
 -- that it has learned, exactly this many are decided: whoever decides a place learns it.
 abbrev pub NothingIsDecidedBehindAll : Type 0
 NothingIsDecidedBehindAll = (log : Log) (workers : List Worker) (one : AreOnOneRun workers)
-    (places : ℕ) → AreAllOf log workers → 0 < length workers →
-    All (IsUpToDateAt places) workers → length one.1.decided ≡ places
+    (places : ℕ) → AreAllOf log workers → All (IsUpToDateAt places) workers →
+    length one.1.decided ≡ places
 
 -- Each own command of these workers is answered, at the place where its worker has replayed it,
--- with the reply that follows from that worker's history over these tables. No-ops belong to
--- nobody.
-abbrev pub AnswersOwn : ℕ → List TableState → List Worker → List Given → Type 0
-AnswersOwn nobody tables workers given =
-    (number place : ℕ) (worker : Worker) (seen : Sighting) (entry : Entry) →
+-- with the reply that follows from that worker's history over these tables.
+abbrev pub AnswersOwn : List TableState → List Worker → List Given → Type 0
+AnswersOwn tables workers given = (number place : ℕ) (worker : Worker) (seen : Sighting) →
     slice_get workers number ≡ Some worker → slice_get (history_of worker) place ≡ Some seen →
-    seen.ticket.worker ≡ number → seen.entry ≡ Some entry → entry.tenant ≢ nobody →
+    seen.ticket.worker ≡ number →
     (at : ℕ) × (reply : Reply) × (slice_get given at ≡ Some (number, place, reply))
-    × (Some reply ≡ reply_to tables (entries (take place (history_of worker))) (Some entry))
+    × (Some reply ≡ reply_to tables (entries (take place (history_of worker))) seen.entry)
 
 -- A run of workers that have one history answers so over the tables that their log was opened over,
 -- if each tenant has one.
 abbrev pub OwnHaveTheirReplies : Type 0
-OwnHaveTheirReplies = (settings : Configuration) (nobody : ℕ) (tables : List TableState)
-    (workers : List Worker) (one : DoOneCoreRun settings nobody tables workers) →
+OwnHaveTheirReplies = (settings : Configuration) (tables : List TableState)
+    (workers : List Worker) (one : DoOneCoreRun settings tables workers) →
     length settings.tenants ≤ length tables → HaveOneHistory workers →
-    AnswersOwn nobody tables workers one.core.given
+    AnswersOwn tables workers one.core.given
+
+-- each of these workers was opened over these tables
+abbrev pub AreOver : List TableState → List Worker → Type 0
+AreOver tables workers = All (λ (worker : Worker). openings_of worker ≡ tables) workers
+
+-- What all workers of a closed log have done is one run of the core over the tables that they were
+-- opened over: its log is the history that each of them has, no more and no less, and its replies
+-- to each worker's own commands are those that follow from that history.
+pub record HaveRunTheCore (settings : Configuration) (tables : List TableState)
+    (workers : List Worker) : Type 0 where
+  pub over : AreOver tables workers
+  pub one : DoOneCoreRun settings tables workers
+  pub whole : (number : ℕ) (worker : Worker) → slice_get workers number ≡ Some worker →
+      log_of one.core.core ≡ entries (history_of worker)
+  pub replies : AnswersOwn tables workers one.core.given
+
+-- All workers of a log that were opened over the same tables and are on one run have done so if
+-- they have one history, of this many places, which are all that they have learned.
+abbrev pub ClosedLogsRunTheCore : Type 0
+ClosedLogsRunTheCore = (tables : List TableState) (log : Log) (workers : List Worker)
+    (places : ℕ) → AreAllOf log workers → AreOver tables workers → AreOnOneRun workers →
+    HaveOneHistory workers → All (IsUpToDateAt places) workers →
+    HaveRunTheCore log.settings tables workers

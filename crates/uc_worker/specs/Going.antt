@@ -2,11 +2,11 @@
 -- project's profile. A command's way to its answer is that of Herlihy's universal construction
 -- (Wait-Free Synchronization, TOPLAS 1991): it is announced, decided at a place of one log, and
 -- answered from all that stands before it.
-use Rattle.std.specs.Prelude.{◌≡◌, ◌⊎◌, ◌≤◌, ◌+◌, ◌∷◌, ◌++◌, [], ℕ, length, take, None, Some, slice_get}
+use Rattle.std.specs.Prelude.{◌≡◌, ◌⊎◌, ◌≤◌, ◌+◌, ◌∷◌, ◌++◌, [], ℕ, length, take, Some, slice_get}
 use Rattle.mc_model.specs.declared.command.Command.{Command}
 use Rattle.lists.specs.Lists.{BeginsWith}
 use Rattle.mc_model.specs.Replay.{reply_to}
-use Rattle.uc_cells.specs.Sighting.{Sighting, entries}
+use Rattle.uc_cells.specs.Sighting.{entries}
 use Rattle.uc_log.specs.Passes.{next_entry}
 use Rattle.uc_places.specs.OneRun.{IsStill}
 use Rattle.uc_worker.specs.declared.worker.Answer.{Answer}
@@ -28,12 +28,6 @@ pub record Continues (old new : Worker) : Type 0 where
 pub record CatchesUp (old new : Worker) : Type 0 where
   pub continues : Continues old new
   pub announced : announced_of new ≡ announced_of old
-
--- the same, and all that the worker has announced meanwhile are no-ops, which belong to nobody
-pub record FillsUp (old new : Worker) : Type 0 where
-  pub continues : Continues old new
-  pub no_ops : (number : ℕ) (seen : Sighting) → length (announced_of old) ≤ number →
-      slice_get (announced_of new) number ≡ Some seen → seen.entry ≡ None
 
 -- the worker has taken no event and replayed nothing; a list may have been shared with its seat
 pub record StandsStill (old new : Worker) : Type 0 where

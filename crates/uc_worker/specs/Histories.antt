@@ -1,7 +1,7 @@
 -- How a worker's history follows the tickets that it has learned. The log is that of Herlihy's
 -- universal construction (Wait-Free Synchronization, TOPLAS 1991); histories and cells are this
 -- project's profile.
-use Rattle.std.specs.Prelude.{◌≡◌, ℕ, ◌+◌, ◌≤◌, ◌<◌, List, length, take, Some, slice_get}
+use Rattle.std.specs.Prelude.{◌≡◌, ◌≢◌, ℕ, ◌+◌, ◌≤◌, ◌<◌, List, length, take, None, Some, slice_get}
 use Rattle.mc_model.specs.declared.id.Ticket.{Ticket}
 use Rattle.mc_model.specs.declared.request.Entry.{Entry}
 use Rattle.mc_model.specs.declared.shown.ShownState.{ShownState}
@@ -30,11 +30,17 @@ abbrev pub LacksAtMostOne : View → List Sighting → Type 0
 LacksAtMostOne view history =
     view.state.announced ≤ count view.worker (take (length history) view.state.learned) + 1
 
+-- what was seen in a ticket's cell is a command of one of this many tenants, under that ticket
+pub record HoldsCommand (tenants : ℕ) (seen : Sighting) : Type 0 where
+  pub some : seen.entry ≢ None
+  pub its : (entry : Entry) → seen.entry ≡ Some entry →
+      (entry.ticket ≡ seen.ticket) × (entry.tenant < tenants)
+
 -- What a worker of this number knows of its own commands, by what it has put into its cells: each
 -- is of one of this many tenants, and where one stands in its history, it was seen there as it was
 -- put.
 pub record KnowsItsOwn (tenants number : ℕ) (put history : List Sighting) : Type 0 where
-  pub tenant : (at : ℕ) (seen : Sighting) (entry : Entry) → slice_get put at ≡ Some seen →
-      seen.entry ≡ Some entry → entry.tenant < tenants
+  pub command : (at : ℕ) (seen : Sighting) → slice_get put at ≡ Some seen →
+      HoldsCommand tenants seen
   pub as_put : (place : ℕ) (seen : Sighting) → slice_get history place ≡ Some seen →
       seen.ticket.worker ≡ number → slice_get put seen.ticket.number ≡ Some seen

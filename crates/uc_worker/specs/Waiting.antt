@@ -1,7 +1,7 @@
 -- What becomes of a pass, and of its pending command, while its worker goes on. Announcing and
 -- deciding are those of Herlihy's universal construction (Wait-Free Synchronization, TOPLAS 1991);
--- passes, faults and no-ops are this project's profile.
-use Rattle.std.specs.Prelude.{◌≡◌, ◌≢◌, ◌⊎◌, ℕ, ◌+◌, ◌-◌, ◌<◌, ◌≤◌, [], ◌∷◌, ◌++◌, length, None, Some, slice_get}
+-- passes and faults are this project's profile.
+use Rattle.std.specs.Prelude.{◌≡◌, ◌≢◌, ◌⊎◌, ℕ, ◌+◌, ◌-◌, ◌<◌, [], ◌∷◌, ◌++◌, length, None, Some, slice_get}
 use Rattle.mc_model.specs.declared.command.Command.{Command}
 use Rattle.mc_model.specs.declared.fault.Fault.{Fault}
 use Rattle.mc_model.specs.declared.fault.Fault.TheVariants.{LogFull}
@@ -10,7 +10,7 @@ use Rattle.lists.specs.Lists.{BeginsWith}
 use Rattle.mc_model.specs.Lawful.{HasRoom}
 use Rattle.uc_log.specs.declared.log.Log.{Log}
 use Rattle.uc_log.specs.declared.pass.Pass.{Pass}
-use Rattle.uc_log.specs.Passes.{IsOf, learned, next_no_op, next_sighting, next_ticket, own_sightings, seat, size, state}
+use Rattle.uc_log.specs.Passes.{IsOf, learned, next_sighting, next_ticket, own_sightings, seat, size, state}
 use Rattle.uc_worker.specs.Steps.{IsSame, Later, Leaves, Rests}
 
 -- more tickets may be learned, and nothing is announced: the pass still belongs to the log, and
@@ -61,10 +61,3 @@ pub record LeavesUndecided (log : Log) (old new : Pass) (tenant : ℕ) (command 
   pub kept : (own_sightings new ≡ own_sightings old)
       ⊎ (own_sightings new ≡ own_sightings old ++ next_sighting log old tenant command ∷ [])
   pub spends : fault ≡ LogFull → ((state new).phase ≡ Pending) ⊎ (learned new ≡ learned old)
-
--- the pass has gone on, and announced a no-op under the next number or nothing
-pub record AnnouncesNoOp (log : Log) (old new : Pass) : Type 0 where
-  pub advances : Advances log old new
-  pub few : (state new).announced ≤ (state old).announced + 1
-  pub own : (own_sightings new ≡ own_sightings old)
-      ⊎ (own_sightings new ≡ own_sightings old ++ next_no_op log old ∷ [])

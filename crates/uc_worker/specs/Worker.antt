@@ -82,8 +82,7 @@ IsSpent worker = IsFull worker
 abbrev pub sighting_of : Log → Entry → Sighting
 sighting_of log entry = sighting entry.ticket (Some entry) (row_of log entry.ticket)
 
--- the entry of the command that a pass announced last, or a made-up one if that was a no-op or
--- there is none
+-- the entry of the command that a pass announced last, or a made-up one if there is none
 abbrev pub entry_or : Option Sighting → Entry
 entry_or (Some seen) =
     unwrap_or seen.entry (record { ticket = ticket_of 0 0; tenant = 0; command = Flush })

@@ -8,8 +8,9 @@ ghost use Rattle.uc_core.specs.Core.{new_core};
 ghost use Rattle.uc_places.specs.Calls.{WitnessWith, Witnesses};
 ghost use Rattle.uc_places.specs.CoreRun.{core_over};
 ghost use Rattle.uc_places.specs.Run.{witnessed_by};
-ghost use Rattle.uc_worker.specs.AllWorkers.{AllDoOneCoreRun, AreOfItsLog, AreOfLog, AreOnOneRun, NothingIsDecidedBehindAll, OwnHaveTheirReplies, TakesNoStep, TheyRunTheCore, WasSo, own_part};
+ghost use Rattle.uc_worker.specs.AllWorkers.{AllDoOneCoreRun, AreOfItsLog, AreOfLog, AreOnOneRun, ClosedLogsRunTheCore, NothingIsDecidedBehindAll, OwnHaveTheirReplies, TakesNoStep, TheyRunTheCore, WasSo, own_part};
 ghost use Rattle.uc_worker.specs.Going.{CatchesUp};
+ghost use Rattle.uc_worker.specs.TurningOver.{IsAsBefore};
 ghost use Rattle.uc_worker.specs.Worker.{own_desk, seat_of};
 
 use crate::worker::Worker;
@@ -117,6 +118,7 @@ fn find_run_of_first<W: FindsRun>(all: &mut [W])
 pub fn find_run_of_all(log: &Log, workers: &mut [Worker<'_>])
     requires { AreOfLog log.now workers.old }
     ensures still { AllZip TakesNoStep workers.old workers.new }
+    ensures before { AllZip IsAsBefore workers.old workers.new }
     ensures later { AllZip CatchesUp workers.old workers.new }
     // One run of the log, from its opening, has all calls of these workers' seats, in order, and no
     // other events of theirs.
@@ -149,6 +151,8 @@ pub fn all_workers_run_the_core()
     // and over any tables it answers each worker's own commands with the replies that
     // `Worker::submit` gives.
     ensures replies { OwnHaveTheirReplies }
+    // Where the workers have closed their log, its history is all of the core's log.
+    ensures closed { ClosedLogsRunTheCore }
 {
     a_run_of_the_log_is_one_of_the_core();
     uc_laws::laws_over_tables();

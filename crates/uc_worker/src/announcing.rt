@@ -1,13 +1,12 @@
-//! Announcing commands and no-ops, and deciding them.
+//! Announcing commands, and deciding them.
 ghost use Rattle.std.specs.Bool.{MatchBool};
-ghost use Rattle.std.specs.Prelude.{◌≡◌, ◌⊎◌, ◌<◌, length, false, Err, IfErr, MatchResult, OnErr, OnOk};
+ghost use Rattle.std.specs.Prelude.{◌≡◌, length, false, Err, MatchResult};
 ghost use Rattle.mc_model.specs.declared.fault.Fault.TheVariants as faults;
 ghost use Rattle.mc_model.specs.declared.shown.Phase.TheVariants as phase;
-ghost use Rattle.mc_model.specs.Lawful.{HasRoom};
 ghost use Rattle.uc_log.specs.Passes.{IsOf, desk, learned, size, state};
 ghost use Rattle.uc_worker.specs.Counting.{TakesFew};
 ghost use Rattle.uc_worker.specs.Steps.{Rests};
-ghost use Rattle.uc_worker.specs.Waiting.{Advances, AnnouncesNoOp, Decides, LearnsOn, LeavesUndecided, RunsOut};
+ghost use Rattle.uc_worker.specs.Waiting.{Advances, Decides, LearnsOn, LeavesUndecided, RunsOut};
 
 use crate::deciding::decide;
 use crate::gate::{Gate, Step};
@@ -68,29 +67,4 @@ pub(crate) fn decide_new<G: Gate>(
     } else {
         Err(Fault::LogFull)
     }
-}
-
-/// Announces a no-op, and goes on until it is decided or all places are learned: at least one more
-/// is learned then.
-///
-/// Returns `Memory` if memory runs out, and `Taken` if its cell holds an entry: nothing is
-/// announced then.
-pub(crate) fn decide_no_op<G: Gate>(
-    log: &Log,
-    alloc: Global,
-    pass: &mut Pass,
-    gate: &mut G,
-) -> Result<(), Fault>
-    requires of { IsOf log.now pass.old }
-    requires idle { (state pass.old).phase ≡ phase.Idle }
-    requires room { HasRoom (size pass.old) (state pass.old) }
-    ensures announces { AnnouncesNoOp log.now pass.old pass.new }
-    ensures more { OnOk result (length (learned pass.old) < length (learned pass.new)) }
-    ensures faults { IfErr result (λ fault. (fault ≡ faults.Memory) ⊎ (fault ≡ faults.Taken)) }
-    ensures unchanged { OnErr result (pass.new ≡ pass.old) }
-{
-    log.announce_no_op(alloc, pass)?;
-    gate.at(Step::Announce);
-    let _ = decide(log, pass, gate);
-    Ok(())
 }

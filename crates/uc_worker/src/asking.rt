@@ -24,7 +24,7 @@ impl<'a> Worker<'a> {
         self.pass.worker()
     }
 
-    /// Returns how many commands the worker has announced, no-ops among them.
+    /// Returns how many commands the worker has announced.
     pub fn announced(&self) -> u64
         ensures { result ≡ (seat_of self.now).state.announced }
     {

@@ -1,10 +1,10 @@
-//! The gate that a worker passes after each step of a call that takes one: `submit`, `catch_up`,
-//! `catch_up_some` and `fill`.
+//! The gate that a worker passes after each step of a call that takes one: `submit`, `catch_up` and
+//! `catch_up_some`.
 
 /// A step of a worker.
 #[derive(Clone, Copy, Debug, PartialEq, Eq)]
 pub enum Step {
-    /// It has announced a command or a no-op.
+    /// It has announced a command.
     Announce,
     /// It has read a place.
     Read,
@@ -16,8 +16,8 @@ pub enum Step {
     Replay,
 }
 
-/// Sees each step of a worker's `submit`, `catch_up`, `catch_up_some` or `fill` directly after it,
-/// and may hold the worker there: others go on without it.
+/// Sees each step of a worker's `submit`, `catch_up` or `catch_up_some` directly after it, and may
+/// hold the worker there: others go on without it.
 pub trait Gate {
     /// Is called directly after this step.
     fn at(&mut self, step: Step);

@@ -10,7 +10,7 @@ ghost use Rattle.uc_places.specs.declared.view.View.{View};
 ghost use Rattle.uc_places.specs.Reached.{LastIsReached};
 ghost use Rattle.uc_places.specs.SeatLaw.{SeatLaw};
 ghost use Rattle.uc_worker.specs.Counting.{TakesFew};
-ghost use Rattle.uc_worker.specs.Going.{CatchesUp, Continues, FillsUp};
+ghost use Rattle.uc_worker.specs.Going.{CatchesUp, Continues};
 ghost use Rattle.uc_worker.specs.Steps.{HasReadOn, Leaves};
 ghost use Rattle.uc_worker.specs.Worker.{HasReplayedAll, IsClosing, IsUpToDate, announced_of, history_of, seat_of};
 ghost use Rattle.uc_worker.specs.declared.worker.Worker.{Worker};
@@ -48,8 +48,7 @@ impl<'a> GoesOn for Worker<'a> {
     } };
 }
 
-/// `Continues`, `CatchesUp` and `FillsUp` are reflexive and transitive, and a worker that catches
-/// up has filled nothing.
+/// `Continues` and `CatchesUp` are reflexive and transitive.
 pub fn workers_go_on()
     ensures same { (worker : Worker) → Continues worker worker }
     ensures through { (first second third : Worker) → Continues first second →
@@ -57,9 +56,6 @@ pub fn workers_go_on()
     ensures quietly { (worker : Worker) → CatchesUp worker worker }
     ensures quietly_through { (first second third : Worker) → CatchesUp first second →
         CatchesUp second third → CatchesUp first third }
-    ensures fills { (old new : Worker) → CatchesUp old new → FillsUp old new }
-    ensures fills_through { (first second third : Worker) → FillsUp first second →
-        FillsUp second third → FillsUp first third }
 {}
 
 /// A log of one worker closes with its last place: none is kept free for others.

@@ -14,7 +14,6 @@ mod announcing;
 mod asking;
 mod catching_up;
 mod deciding;
-mod filling;
 pub mod gate;
 pub mod laws;
 mod meeting;

@@ -99,12 +99,6 @@ impl<'a> Client<'a> {
         self.worker.catch_up_some(most, &mut Open)
     }
 
-    pub(crate) fn fill<G: Gate>(&mut self, gate: &mut G) -> Result<(), Fault>
-        ensures { self.new.log ≡ self.old.log }
-    {
-        self.worker.fill(gate)
-    }
-
     pub(crate) fn meet(&mut self, other: &mut Client<'a>) -> Result<(), Fault>
         requires { self.old.log.now ≡ other.old.log.now }
         ensures one { self.new.log ≡ self.old.log }

@@ -13,13 +13,13 @@ use std::sync::atomic::{AtomicBool, Ordering};
 use std::test::Fail;
 use std::thread;
 use std::thread::Threads;
-use uc_worker::{Gate, Next, Open, Step};
+use uc_worker::{Gate, Next, Step};
 
 /// How many commands the other worker submits while the first is held.
 const BESIDE: u32 = 50;
 
-/// More steps than a submit of these tests has, and fewer than the places of their longest log.
-const MOST: u32 = 100;
+/// More steps than a call of these tests has, and fewer than the places of their longest log.
+const MOST: u32 = 200;
 
 /// What the first worker reads on the log that follows.
 const VALUES: &str = "VALUE a 0 1\r\nx\r\nVALUE b 0 1\r\ny\r\nEND\r\n";
@@ -31,8 +31,8 @@ enum Work {
     Submit,
     /// The first submits one command, and the other as many as it may until the log closes.
     Close,
-    /// Both fill the places that are left.
-    Fill,
+    /// Both catch up.
+    CatchUp,
 }
 
 /// The signals between the two threads.
@@ -76,8 +76,8 @@ fn work_through<G: Gate>(
 ) -> Result<u64, Fault>
     ensures { client.new.log ≡ client.old.log }
 {
-    if work == Work::Fill {
-        client.fill(gate)?;
+    if work == Work::CatchUp {
+        client.worker.catch_up(gate)?;
         return Ok(0);
     }
     let answer = client.ask(alloc, 0, "set a 0 0 1\r\nx\r\n", gate)?;
@@ -134,8 +134,8 @@ fn work_beside(alloc: Global, client: &mut Client<'_>, work: Work) -> Result<boo
     match work {
         Work::Submit => are_stored(alloc, client, BESIDE),
         Work::Close => are_stored_until_it_closes(alloc, client),
-        Work::Fill => {
-            client.fill(&mut Open)?;
+        Work::CatchUp => {
+            client.catch_up()?;
             Ok(true)
         }
     }
@@ -254,16 +254,14 @@ fn held_at_each_step_on_a_thread(rt: HostRuntime) -> Result<(), Fail> {
     Ok(())
 }
 
-/// Closes a log beside a worker that is held, fills it beside one that is held, and turns it over.
-/// Returns whether the worker was held too.
+/// Closes a log beside a worker that is held, catches up beside one that is held, and turns the log
+/// over. Returns whether the worker was held too.
 fn closed<R: Threads + Sync>(rt: &R, alloc: Global, left: u32) -> Result<(Opened, bool), Fault> {
     let (log, passes) = opened(alloc, 2, 64, &[QUOTAS])?;
     let (first, second) = both_clients(alloc, &log, passes)?;
     let before = work_on_threads(rt, alloc, first, second, Work::Close, left)?;
     let was_held = before.step.is_some();
-    let mut first = before.first;
-    first.catch_up()?;
-    let at = work_on_threads(rt, alloc, first, before.second, Work::Fill, left)?;
+    let at = work_on_threads(rt, alloc, before.first, before.second, Work::CatchUp, left)?;
     let opened = turned_over(alloc, &log, at.first, at.second)?;
     Ok((opened, was_held || at.step.is_some()))
 }
@@ -302,9 +300,9 @@ fn held_around<R: Threads + Sync>(rt: &R, alloc: Global, left: u32) -> Result<bo
 fn held_at_each_step_around_a_turn_over(rt: HostRuntime) -> Result<(), Fail> {
     for left in 0..MOST {
         if !held_around(&rt, rt.alloc(), left)? {
-            // Filling takes the most: a read, an announcement, a read, a look, a proposal, a
-            // replay.
-            assert_eq!(rt; left, 6);
+            // To catch up takes the most: a read and a replay of each of the other's 62 commands,
+            // and a read of the place behind them.
+            assert_eq!(rt; left, 125);
             return Ok(());
         }
     }

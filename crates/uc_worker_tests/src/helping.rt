@@ -7,6 +7,7 @@ use crate::clients::{
 };
 use crate::flags::comes;
 use crate::generations::{Opened, both_over, is_ready};
+use crate::stopped::are_stored;
 use crate::texts::{QUOTAS, command_of};
 use mc_model::{Fault, TenantId};
 use std::alloc::Global;
@@ -81,8 +82,8 @@ fn turned_over_by<'a>(alloc: Global, log: &'a Log, client: Client<'a>) -> Result
     Ok(Opened { next })
 }
 
-/// Turns the log over by the second worker, which has filled it after the first has announced a set
-/// and done nothing else.
+/// Turns the log over by the second worker, which has filled it by sets of its own after the first
+/// has announced a set and done nothing else.
 fn turned_over_beside(
     alloc: Global,
     log: &Log,
@@ -94,7 +95,10 @@ fn turned_over_beside(
 {
     announce(log, alloc, &mut first, "set a 0 0 1\r\nx\r\n")?;
     let mut client = Client::open(alloc, log, second)?;
-    client.fill(&mut Open)?;
+    // With the first's set, which is decided among them, they take all four places.
+    if !are_stored(alloc, &mut client, 3)? {
+        return Err(Fault::BadEvent);
+    }
     turned_over_by(alloc, log, client)
 }
 

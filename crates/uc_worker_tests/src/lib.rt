@@ -15,7 +15,7 @@ mod cells;
 #[cfg(test)]
 mod clients;
 #[cfg(test)]
-mod filling;
+mod closing;
 #[cfg(test)]
 mod flags;
 #[cfg(test)]

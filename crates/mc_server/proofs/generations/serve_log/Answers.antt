@@ -1,4 +1,4 @@
-use Rattle.std.proofs.Common.{◌≡◌, ◌∙◌, ◌++◌, List, ap, arith, drop, inl, inr, length, refl, subst, sym, take}
+use Rattle.std.proofs.Common.{◌≡◌, ◌∙◌, ◌++◌, List, ap, drop, inl, inr, length, refl, subst, sym, take}
 use Rattle.std.proofs.lemmas.List.Elements.{length_all_zip}
 use Rattle.std.specs.List.{AllZip}
 use Rattle.mc_net.specs.Running.{each_followed_by}
@@ -8,11 +8,6 @@ use Rattle.mc_server.specs.Logs.{Closes, one_more_log}
 use Rattle.uc_worker.specs.Going.{CatchesUp}
 use Rattle.uc_worker.specs.declared.worker.Worker.{Worker}
 use Rattle.mc_server.proofs.generations.serve_log.Goals as goal
-
-pub meet_all-requires : goal.meet_all-requires
-meet_all-requires g c =
-    let all = c.in_ok-workers.ensures.workers in
-    (c.args.log.now.settings, c.args.log.now, all, omega (arith, all.many, c.requires.some))
 
 -- the log is served to the end in one part
 pub returns-in-Done-clause-serves : goal.returns-in-Done-clause-serves
@@ -32,7 +27,8 @@ returns-in-Done-clause-serves g c = λ logs places who tables were by opened.
         parts = inl (c.in_ok-workers.ensures.back, refl);
       };
       run = c.in_ok-workers.ensures.run;
-      met = c.in_ok-meet_all-in-Done.ensures.outcome;
+      met = c.in_ok-meet_and_close-in-Done.ensures.outcome.met;
+      closes = c.in_ok-meet_and_close-in-Done.ensures.outcome.closes;
       by = c.in_ok-workers.ensures.in_turn who by;
       over = c.in_ok-workers.ensures.done c.in-Done.is;
     }
@@ -65,11 +61,6 @@ serve_part-requires-2-clause-workers g c κs within =
     subst (AllZip CatchesUp full) (sym whole) (subst (λ (workers : List Worker). AllZip CatchesUp workers c.next_log.new.workers) c.deref_mut.ensures.value c.next_log.ensures.later) in
     are_workers c.args.log.now.settings c.args.log.now full _ (all_on full _ later) c.in_ok-workers.ensures.workers
 
-pub meet_all-requires-2 : goal.meet_all-requires-2
-meet_all-requires-2 g c =
-    let all = c.in_ok-workers-2.ensures.workers in
-    (c.args.log.now.settings, c.args.log.now, all, omega (arith, all.many, c.requires.some))
-
 pub returns-clause-serves : goal.returns-clause-serves
 returns-clause-serves g c = λ logs places who tables were by opened.
     let begun = c.args.workers.items in
@@ -94,7 +85,8 @@ returns-clause-serves g c = λ logs places who tables were by opened.
         parts = inr (record { full = full; again = _; first = c.in_ok-workers.ensures.back; between = later; second = c.in_ok-workers-2.ensures.back; in_turn = refl });
       };
       run = c.in_ok-workers-2.ensures.run;
-      met = c.in_ok-meet_all.ensures.outcome;
+      met = c.in_ok-meet_and_close.ensures.outcome.met;
+      closes = c.in_ok-meet_and_close.ensures.outcome.closes;
       by = c.in_ok-workers-2.ensures.in_turn who_then (c.in_ok-workers.ensures.in_turn who by);
       over = c.in_ok-workers-2.ensures.done (c.in_ok-workers-2.ensures.last refl);
     }

@@ -5,7 +5,7 @@ use Rattle.mc_server.proofs.OwnOrder.{legal_order, served_in_order}
 use Rattle.mc_server.proofs.laws.commands_of_a_worker_keep_their_order.Goals as goal
 
 pub returns-clause-run : goal.returns-clause-run
-returns-clause-run c settings nobody tables workers one =
+returns-clause-run c settings tables workers one =
     let run = one.core in
     let sound = c.laws_over_tables.ensures.once settings tables run.events run.core run.given run.runs in
     legal_order one.log.decided (subst (λ (log : ShownState). IsLegal log.decided) run.shown sound.legal)

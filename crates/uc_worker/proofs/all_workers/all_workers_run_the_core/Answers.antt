@@ -1,5 +1,6 @@
--- `RunsOfTheCore`, `OneCoreRun` and `OwnReplies` show it.
+-- `RunsOfTheCore`, `OneCoreRun`, `OwnReplies` and `ClosedRuns` show it.
 use Rattle.std.proofs.Common.{refl}
+use Rattle.uc_worker.proofs.ClosedRuns.{closed_logs_run_the_core}
 use Rattle.uc_worker.proofs.OneCoreRun.{all_do_one_core_run}
 use Rattle.uc_worker.proofs.OwnReplies.{own_have_their_replies}
 use Rattle.uc_worker.proofs.RunsOfTheCore.{they_run_the_core}
@@ -21,3 +22,6 @@ returns-clause-replies c = own_have_their_replies (record {
   shown = c.laws_over_tables.ensures.shown;
   settings = c.runs_over_tables_do_what_is_asked.ensures.settings;
 })
+
+pub returns-clause-closed : goal.returns-clause-closed
+returns-clause-closed c = closed_logs_run_the_core c.a_run_of_the_log_is_one_of_the_core.ensures (returns-clause-replies c)

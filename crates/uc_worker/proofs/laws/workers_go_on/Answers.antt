@@ -1,6 +1,5 @@
 use Rattle.std.proofs.Common.{◌∙◌, refl}
 use Rattle.uc_worker.specs.contracts.laws.WorkerGoesOn.TheImpl.{continues_self-value, continues_through-value}
-use Rattle.uc_worker.proofs.NoOps.{fills_quietly, fills_through}
 use Rattle.uc_worker.proofs.laws.workers_go_on.Goals as goal
 
 pub returns : goal.returns
@@ -12,6 +11,4 @@ returns c = record {
     continues = continues_through-value.it first second third one.continues two.continues;
     announced = two.announced ∙ one.announced;
   };
-  fills = fills_quietly;
-  fills_through = fills_through;
 }

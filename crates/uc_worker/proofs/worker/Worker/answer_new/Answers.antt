@@ -8,7 +8,7 @@ use Rattle.uc_log.specs.Passes.{learned, next_entry, next_sighting, next_ticket,
 use Rattle.uc_worker.specs.Worker.{announced_of, history_of, last_entry, openings_of, sighting_of}
 use Rattle.lists.proofs.Public.{begins_same, begins_self}
 use Rattle.uc_worker.proofs.Lacking.{announced_few, lacks_announced}
-use Rattle.uc_worker.proofs.Owning.{either_put, known_tenant, owns_either}
+use Rattle.uc_worker.proofs.Owning.{either_put, holds_next, owns_either}
 use Rattle.uc_worker.proofs.Replies.{last_is}
 use Rattle.uc_worker.proofs.worker.Worker.answer_new.Goals as goal
 
@@ -49,10 +49,10 @@ invariant_of-self-clause-lacks g c = let self = c.args.self.now in let new = c.d
     c.decide_new.ensures.advances.same.1
     (announced_few c.decide_new.result self.log.now self.pass new c.args.tenant c.args.command c.decide_new.ensures.outcome) c.decide_new.ensures.advances.begins
 
--- the command's tenant is known
+-- the command is one of its tenant
 pub invariant_of-self-clause-own : goal.invariant_of-self-clause-own
 invariant_of-self-clause-own g c =
     let self = c.args.self.now in let new = c.decide_new.new.pass in let log = self.log.now in let tenants = length log.settings.tenants in
     owns_either tenants self.pass new (next_sighting log self.pass c.args.tenant c.args.command) self.replica.history c.decide_new.ensures.advances.same.1
     (either_put c.decide_new.result log self.pass new c.args.tenant c.args.command c.decide_new.ensures.outcome)
-    (known_tenant tenants log self.pass c.args.tenant c.args.command (omega (arith, c.requires.tenant, self.opened.1))) self.own
+    (holds_next tenants log self.pass c.args.tenant c.args.command (omega (arith, c.requires.tenant, self.opened.1))) self.own
