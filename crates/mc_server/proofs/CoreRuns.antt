@@ -5,14 +5,14 @@ use Rattle.std.proofs.lemmas.Option.{get_or_from_slice_get, none-some, same_Some
 use Rattle.std.specs.List.{AllZip}
 use Rattle.mc_model.specs.Settings.{Configuration}
 use Rattle.mc_model.specs.State.{TableState}
-use Rattle.mc_server.proofs.LogRuns.{all_on}
+use Rattle.mc_server.proofs.LogRuns.{all_on, workers_back}
 use Rattle.mc_server.proofs.NetworkRuns.{are_workers}
-use Rattle.mc_server.specs.CoreRuns.{ClosedLogsAreCoreRuns, ClosedLogsDecidedNoMore, LastLogsAreCoreRuns}
+use Rattle.mc_server.specs.CoreRuns.{ClosedLogsAreCoreRuns, ClosedLogsDecidedNoMore, LastLogsAreCoreRuns, LastLogsComeBackOnCoreRuns}
 use Rattle.mc_server.specs.Crew.{AreWorkersOf, HaveClosed, number_of}
 use Rattle.mc_server.specs.Listeners.{CountsFrom}
 use Rattle.mc_server.specs.Logs.{AreOpenedOver, ServesInTwo}
 use Rattle.uc_log.specs.declared.log.Log.{Log}
-use Rattle.uc_worker.specs.AllWorkers.{AreAllOf, AreOver, ClosedLogsRunTheCore, HaveRunTheCore, NothingIsDecidedBehindAll}
+use Rattle.uc_worker.specs.AllWorkers.{AllDoOneCoreRun, AreAllOf, AreOver, ClosedLogsRunTheCore, DoOneCoreRun, HaveRunTheCore, NothingIsDecidedBehindAll}
 use Rattle.uc_worker.specs.Going.{Continues}
 use Rattle.uc_worker.specs.Worker.{openings_of}
 use Rattle.uc_worker.specs.declared.worker.Worker.{Worker}
@@ -81,3 +81,9 @@ last_logs law through settings most number were =
         all_through through were.serves.begun two.again were.served
         (all_through through were.serves.begun two.full two.again two.first (all_on two.full two.again two.between)) two.second)
         were.serves.parts
+
+pub last_logs_back : AllDoOneCoreRun → LastLogsComeBackOnCoreRuns
+last_logs_back law settings most number were =
+    let back = workers_back settings were.logs were.places were.all were.served were.serves in
+    subst (λ (known : Configuration). DoOneCoreRun known were.serves.tables were.served) back.opened
+    (law were.serves.tables were.serves.log were.served (are_all settings were.serves.log were.served back) were.run)

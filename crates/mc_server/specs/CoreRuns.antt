@@ -31,6 +31,12 @@ LastLogsAreCoreRuns = (settings : Configuration) (most number : ℕ) →
     (were : WereServed settings most number) →
     HaveRunTheCore settings were.serves.tables were.closes.closed
 
+-- What those had done as they came back, before they met, is one run of the core over these tables.
+abbrev pub LastLogsComeBackOnCoreRuns : Type 0
+LastLogsComeBackOnCoreRuns = (settings : Configuration) (most number : ℕ) →
+    (were : WereServed settings most number) →
+    DoOneCoreRun settings were.serves.tables were.served
+
 -- The run of a closed log, which has all that its workers have done, has decided the places that
 -- were used, and no others: it has no command that their history lacks.
 abbrev pub ClosedLogsDecidedNoMore : Type 0

@@ -21,7 +21,7 @@ use Rattle.uc_worker.specs.Cited.{entries}
 use Rattle.uc_log.specs.declared.log.Log.{Log}
 use Rattle.uc_log.specs.declared.pass.Pass.{Pass}
 use Rattle.uc_log.specs.Passes.{IsNew, IsUnusedPass, seat}
-use Rattle.uc_worker.specs.AllWorkers.{AreOnOneRun}
+use Rattle.uc_worker.specs.AllWorkers.{AreOnOneRun, AreOver}
 use Rattle.uc_worker.specs.Going.{CatchesUp, Continues}
 use Rattle.uc_worker.specs.Worker.{history_of, openings_of, seat_of, tables_of}
 use Rattle.uc_worker.specs.declared.turning_over.Base.{Base}
@@ -33,7 +33,7 @@ pub record AreOpenedOver (settings : Configuration) (log : Log) (tables : List T
     (workers : List Worker) : Type 0 where
   pub all : AreWorkersOf settings log workers
   pub new : All HasDoneNothing workers
-  pub over : All (λ (worker : Worker). openings_of worker ≡ tables) workers
+  pub over : AreOver tables workers
 
 -- the tables with which a log begins: empty ones, or those of a base
 abbrev pub tables_over : Log → Option Base → List TableState

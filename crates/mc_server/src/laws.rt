@@ -1,6 +1,6 @@
 //! What follows of the logs that tenants were served on. A law is the contract of a function with
 //! an empty body, or with calls of the laws from which it follows.
-ghost use Rattle.mc_server.specs.CoreRuns.{AnnouncesInServedOrder, ClosedLogsAreCoreRuns, ClosedLogsDecidedNoMore, LastLogsAreCoreRuns, RunsKeepOwnOrder};
+ghost use Rattle.mc_server.specs.CoreRuns.{AnnouncesInServedOrder, ClosedLogsAreCoreRuns, ClosedLogsDecidedNoMore, LastLogsAreCoreRuns, LastLogsComeBackOnCoreRuns, RunsKeepOwnOrder};
 
 /// What the workers of a log have done, of all logs of a run of `wfmc` that ends, is one run of the
 /// core, the machine of the headline, over the tables that the log was opened over: each log that
@@ -9,6 +9,8 @@ ghost use Rattle.mc_server.specs.CoreRuns.{AnnouncesInServedOrder, ClosedLogsAre
 pub fn each_log_is_one_run_of_the_core()
     ensures closed { ClosedLogsAreCoreRuns }
     ensures last { LastLogsAreCoreRuns }
+    // So is what those of the last log had done as they came back, before they met.
+    ensures back { LastLogsComeBackOnCoreRuns }
 {
     uc_worker::all_workers::all_workers_run_the_core();
     uc_worker::laws::workers_go_on();
