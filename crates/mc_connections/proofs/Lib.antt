@@ -2,6 +2,7 @@ pub mod Askings
 pub mod Counts
 pub mod Lives
 pub mod Numbers
+pub mod SeenInOrder
 pub mod Servings
 pub mod Turning
 pub mod Workings

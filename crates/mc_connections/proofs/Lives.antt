@@ -1,6 +1,6 @@
 -- What every connection has come to, while it is among those of a worker and once it has ended:
 -- turn by turn, whatever the worker does for others in between.
-use Rattle.std.proofs.Common.{◌≡◌, ◌≢◌, ◌⊎◌, ℕ, ◌+◌, zero, suc, cond, Bool, true, false, List, [], ◌∷◌, ◌++◌, Option, Some, None, All, count_by, is_some, slice_index_or, inl, inr, ⊎_elim, refl, sym, ap, subst, ◌∙◌, arith, append-nil, append_assoc}
+use Rattle.std.proofs.Common.{◌≡◌, ◌≢◌, ◌⊎◌, ℕ, ◌+◌, zero, suc, cond, Bool, true, false, List, [], ◌∷◌, ◌++◌, Option, Some, None, All, count_by, is_some, slice_get, slice_index_or, inl, inr, ⊎_elim, refl, sym, ap, subst, ◌∙◌, arith, append-nil, append_assoc}
 use Rattle.std.specs.Bool.{MatchBool}
 use Rattle.std.specs.List.{AllZip, list_any}
 use Rattle.std.specs.Prelude.{◌||◌}
@@ -8,7 +8,7 @@ use Rattle.std.proofs.lemmas.List.Elements.{All-cons, All-nil}
 use Rattle.std.proofs.lemmas.Bool.{eqb-true}
 use Rattle.std.proofs.lemmas.List.Folds.{list_any-append}
 use Rattle.std.proofs.lemmas.List.Sums.{sum_by-cons}
-use Rattle.std.proofs.lemmas.Option.{same_Some}
+use Rattle.std.proofs.lemmas.Option.{get_or_from_slice_get, same_Some, slice_get_within}
 use Rattle.mc_conn.specs.Alone.{first_mark}
 use Rattle.mc_conn.specs.ConnFault.{CellTaken, ConnFault, CountsFailures, InputFailed, IsTold, OutOfMemory, OutputFailed}
 use Rattle.mc_conn.specs.Ending.{Breaks, IsDone, Stops}
@@ -31,6 +31,7 @@ use Rattle.mc_stream.specs.Stream.{Inflow, Outflow, both}
 use Rattle.uc_worker.specs.declared.worker.Worker.{Worker}
 use Rattle.lists.proofs.Public.{begins_longer}
 use Rattle.mc_connections.specs.Life.{FailedSoOften, HasFault, WasAnswered, IsBehind, OwesInLogs, OwesInParts, and_then, next_log, no_log, came_of, none_yet, sent_of, words_of}
+use Rattle.mc_connections.specs.Seen.{WasSent}
 use Rattle.mc_connections.specs.Serving.{Becomes, HasEnded, IsNewConnection, IsServedLater, connection_at, scene_of}
 use Rattle.mc_connections.specs.InTurn.{HaveServedInTurn, InTurn, no_worker, one_on_next_log}
 use Rattle.mc_connections.specs.Working.{IsUnused, KeepsUp, ServesOne, Standing, TakesIn, Works, begins, goes_on, standing}
@@ -566,3 +567,42 @@ pub answered_in_turn : PartsAddUp → (who : InTurn) (connections : Connections)
 answered_in_turn laws _ connections (no_worker _ new) = subst (All (WasAnswered [])) (sym new.1) (All-nil (WasAnswered []))
 answered_in_turn laws _ connections (one_on_next_log who first _ until before after served works) =
     (sound_working until who.served (standing before first) (standing after connections) (sound_in_turn laws who first served before) works).ended
+
+-- what a connection was sent so far that no fault has closed
+pub lives_so_far : (past : List Worker) (worker : Worker) (connection : Connection) → Lives past worker connection → WasSent (past ++ worker ∷ []) connection
+lives_so_far past worker connection lives = record {
+  requests = lives.earlier ++ lives.requests;
+  owed = lives.earlier_owed ++ lives.owed;
+  first = λ more all reads. let then = (lives.reads more all).0 reads in (then.0, then.1);
+  owes = logs_then connection.conn.role past lives.earlier lives.earlier_owed lives.earlier_owes worker lives.requests lives.owed lives.to lives.owes;
+  fault = None;
+  sent = (queue_of connection.conn, append-nil (lives.earlier_owed ++ lives.owed) ∙ sym lives.bytes);
+}
+
+-- and one that has ended
+was_sent : (workers : List Worker) (connection : Connection) → WasAnswered workers connection → WasSent workers connection
+was_sent workers connection answered = ⊎_elim
+    (λ ends. record {
+      requests = answered.requests;
+      owed = answered.owed;
+      first = answered.first;
+      owes = answered.owes;
+      fault = None;
+      sent = ([], ap (λ (bytes : List ℕ). bytes ++ []) (sym ends.sent));
+    })
+    (λ cut. record {
+      requests = answered.requests;
+      owed = answered.owed;
+      first = answered.first;
+      owes = answered.owes;
+      fault = Some cut.fault;
+      sent = cut.sent;
+    })
+    answered.ending
+
+pub ended_so_far : (past : List Worker) (now : Standing) → IsSound past now → (connection : Connection) (place : ℕ) →
+    slice_get now.connections.ended.connections place ≡ Some connection → WasSent (past ++ now.worker ∷ []) connection
+ended_so_far past now sound connection place at =
+    let list = now.connections.ended.connections in
+    subst (WasSent (past ++ now.worker ∷ [])) (get_or_from_slice_get list place connection connection at)
+    (was_sent (past ++ now.worker ∷ []) (slice_index_or list place connection) (sound.ended place connection (slice_get_within list place connection at)))

@@ -1,17 +1,19 @@
 //! What the definitions say of connections, log after log, and the numbers of this profile. A law
 //! is the contract of a function with an empty body, or with calls of the laws from which it
 //! follows.
-ghost use Rattle.std.specs.Prelude.{◌≡◌, ◌↔◌, [], ◌∷◌, All, Bool, ℕ, List, length};
+ghost use Rattle.std.specs.Prelude.{◌≡◌, ◌↔◌, ◌<◌, [], ◌∷◌, ◌++◌, All, Bool, ℕ, List, length};
 ghost use Rattle.mc_conn.specs.Owed.{Mark};
 ghost use Rattle.mc_conn.specs.declared.conn.Role.{Role};
 ghost use Rattle.mc_connections.specs.Asking.{HaveBeenAsked};
 ghost use Rattle.mc_connections.specs.InTurn.{HaveServedInTurn, InTurn};
 ghost use Rattle.mc_connections.specs.Life.{OwesInLogs, OwesInParts, WasAnswered};
+ghost use Rattle.mc_connections.specs.Seen.{IsThere, SeesThenAsks, WasSent};
 ghost use Rattle.mc_connections.specs.Serving.{HasComeTo};
 ghost use Rattle.mc_connections.specs.Working.{IsEmpty, KeepsPlaces, Standing, Works, standing};
 ghost use Rattle.mc_connections.specs.declared.arrival.Admission.{Admission};
 ghost use Rattle.mc_connections.specs.declared.arrival.Arrival.{Arrival};
 ghost use Rattle.mc_connections.specs.declared.closing.TheConstants.{DROPPED_BYTES, MOST_CLOSING};
+ghost use Rattle.mc_connections.specs.declared.connection.Connection.{Connection};
 ghost use Rattle.mc_connections.specs.declared.connections.Connections.{Connections};
 ghost use Rattle.mc_connections.specs.declared.places.TheConstants.{MOST_ADMINS, MOST_CONNECTIONS};
 ghost use Rattle.mc_model.specs.declared.request.Request.{Request};
@@ -66,6 +68,26 @@ pub fn connections_are_answered_over_logs()
 {
     mc_conn::laws::parts_add_up();
 }
+
+/// What a connection was sent by any moment between two serves, whether it is there still or has
+/// ended, is a prefix of what it is owed by the workers that have served it, for requests of which
+/// they had announced the commands by then.
+pub fn connections_are_answered_so_far()
+    ensures { (who : InTurn) (connections : Connections) (until : Bool) (begun : Worker)
+        (now : Standing) (connection : Connection) → HaveServedInTurn who connections →
+        Works until (standing begun connections) now → IsThere now connection →
+        WasSent (who.served ++ now.worker ∷ []) connection }
+{
+    mc_conn::laws::parts_add_up();
+}
+
+/// A client that has read a reply on one connection of a worker, and then sends a request on
+/// another, has its commands announced in that order.
+pub fn what_a_client_has_seen_comes_first()
+    ensures { (until : Bool) (past : List Worker) (saw asked answered : Standing)
+        (first second : ℕ) → SeesThenAsks until past saw asked answered first second →
+        first < second }
+{}
 
 /// Once no connection is left, each command that a worker has announced is one request of a
 /// connection that has ended, and none was announced twice: neither on one log nor on two.

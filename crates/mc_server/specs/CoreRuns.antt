@@ -3,6 +3,7 @@
 -- an end; that it is cut into logs is this project's profile.
 use Rattle.std.specs.List.{AllZip}
 use Rattle.std.specs.Prelude.{◌≡◌, ◌<◌, ◌≤◌, ℕ, Bool, List, Some, length, slice_get}
+use Rattle.mc_connections.specs.Seen.{SeesThenAsks}
 use Rattle.mc_connections.specs.Working.{Standing, Works}
 use Rattle.mc_model.specs.declared.id.Ticket.{Ticket}
 use Rattle.mc_model.specs.Legal.{ticket_of}
@@ -13,7 +14,7 @@ use Rattle.mc_server.specs.Logs.{AreOpenedOver, WereServed}
 use Rattle.uc_log.specs.declared.log.Log.{Log}
 use Rattle.uc_worker.specs.AllWorkers.{DoOneCoreRun, HaveRunTheCore}
 use Rattle.uc_worker.specs.Going.{Continues}
-use Rattle.uc_worker.specs.Worker.{announced_of}
+use Rattle.uc_worker.specs.Worker.{announced_of, seat_of}
 use Rattle.uc_worker.specs.declared.worker.Worker.{Worker}
 
 -- What the workers of a log have done, of each log that is closed, is one run of the core over the
@@ -64,3 +65,15 @@ abbrev pub AnnouncesInServedOrder : Type 0
 AnnouncesInServedOrder = (until : Bool) (early late : Standing) (first second : ℕ) →
     Works until early late → first < length (announced_of early.worker) →
     length (announced_of late.worker) ≤ second → first < second
+
+-- What a client saw in order stands in that order in each run of the core that the workers of a log
+-- have done: it has read a reply on one connection of a worker, and what it then asks for on
+-- another stands behind the command of that reply, if both stand in the log.
+abbrev pub RunsKeepSeenOrder : Type 0
+RunsKeepSeenOrder = (settings : Configuration) (tables : List TableState)
+    (workers : List Worker) (one : DoOneCoreRun settings tables workers) (until : Bool)
+    (past : List Worker) (saw asked answered : Standing) (first second place later : ℕ) →
+    SeesThenAsks until past saw asked answered first second →
+    slice_get one.log.decided place ≡ Some (ticket_of (seat_of saw.worker).worker first) →
+    slice_get one.log.decided later ≡ Some (ticket_of (seat_of saw.worker).worker second) →
+    place < later

@@ -1,6 +1,6 @@
 //! What follows of the logs that tenants were served on. A law is the contract of a function with
 //! an empty body, or with calls of the laws from which it follows.
-ghost use Rattle.mc_server.specs.CoreRuns.{AnnouncesInServedOrder, ClosedLogsAreCoreRuns, ClosedLogsDecidedNoMore, LastLogsAreCoreRuns, LastLogsComeBackOnCoreRuns, RunsKeepOwnOrder};
+ghost use Rattle.mc_server.specs.CoreRuns.{AnnouncesInServedOrder, ClosedLogsAreCoreRuns, ClosedLogsDecidedNoMore, LastLogsAreCoreRuns, LastLogsComeBackOnCoreRuns, RunsKeepOwnOrder, RunsKeepSeenOrder};
 
 /// What the workers of a log have done, of all logs of a run of `wfmc` that ends, is one run of the
 /// core, the machine of the headline, over the tables that the log was opened over: each log that
@@ -27,11 +27,13 @@ pub fn closed_logs_have_no_other_commands()
 /// Of two commands of a worker that stand in its log's run, the one that it announced first stands
 /// first, whichever connections they came by: a worker's commands are numbered as it announces
 /// them. What it announced before it served connections has lower numbers than what it announces
-/// after that.
+/// after that. So what a client of two of its connections saw in order stands in that order.
 pub fn commands_of_a_worker_keep_their_order()
     ensures run { RunsKeepOwnOrder }
     ensures served { AnnouncesInServedOrder }
+    ensures seen { RunsKeepSeenOrder }
 {
     uc_laws::over::laws_over_tables();
     mc_connections::laws::work_adds_up();
+    mc_connections::laws::what_a_client_has_seen_comes_first();
 }

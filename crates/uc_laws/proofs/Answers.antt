@@ -21,7 +21,7 @@ use Rattle.uc_laws.proofs.Echoed.{Laws, is_after}
 use Rattle.uc_laws.proofs.Growing.{Grows, grows, grows_through, log_at, stands_on, take-begins, there}
 use Rattle.uc_laws.proofs.Standing.{AllStand, IsOpened, all_stand_first, has_entries, learned_inside, opened, opened_on, sound_log, stand_after, stand_at_end}
 use Rattle.uc_laws.specs.Over.{IsAnswerOver, RepliesAreAnswersOver}
-use Rattle.uc_places.specs.CoreRun.{core_over}
+use Rattle.uc_laws.specs.CoreRun.{core_over}
 
 -- an answer stays the answer
 answer_stays : (tables : List TableState) (old new : CoreState) (worker place : ℕ) (reply : Reply) → Grows old new → IsAnswerOver tables old worker place reply →

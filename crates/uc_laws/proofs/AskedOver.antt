@@ -9,7 +9,7 @@ use Rattle.uc_core.specs.Run.{Given, Runs}
 use Rattle.uc_core.specs.declared.event.Event.{Event}
 use Rattle.uc_laws.proofs.Echoes.{Echoed, open_alike, run_echoes, with_replays}
 use Rattle.uc_laws.specs.Over.{ByEventsOver}
-use Rattle.uc_places.specs.CoreRun.{core_over}
+use Rattle.uc_laws.specs.CoreRun.{core_over}
 
 echo_of : (settings : Configuration) (tables : List TableState) (events : List Event) (core : CoreState) (given : List Given) →
     Runs (core_over settings tables) events core given → Echoed (core_over settings tables) events core given (new_core settings).replays

@@ -13,7 +13,7 @@ use Rattle.uc_core.specs.Run.{Given, Runs}
 use Rattle.uc_core.specs.Step.{actor}
 use Rattle.uc_core.specs.declared.event.Event.{Event}
 use Rattle.uc_laws.proofs.Echoes.{AreAlike, Echoed, announce_echoes, found_alike, open_alike, run_echoes, stop_echoes, with_replays}
-use Rattle.uc_places.specs.CoreRun.{core_over}
+use Rattle.uc_laws.specs.CoreRun.{core_over}
 
 -- the laws of every run over empty tables
 pub record Laws : Type 0 where

@@ -17,7 +17,7 @@ use Rattle.uc_core.specs.Step.{CoreStep, entry_at}
 use Rattle.uc_core.specs.declared.event.Event.{Event}
 use Rattle.uc_core.specs.declared.event.Event.TheVariants.{Announce, Look, Propose, Read, Replay, Stop}
 use Rattle.uc_laws.proofs.Effects.{effects, takes_effect}
-use Rattle.uc_places.specs.CoreRun.{core_over}
+use Rattle.uc_laws.specs.CoreRun.{core_over}
 
 -- each worker has replayed as many places here as there
 abbrev pub counted : Option ReplayState → Option ℕ

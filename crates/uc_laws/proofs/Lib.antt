@@ -1,3 +1,4 @@
+mod CoreRuns
 mod Effects
 mod Echoes
 mod Echoed

@@ -10,7 +10,7 @@ use Rattle.uc_core.specs.declared.event.Event.{Event}
 use Rattle.uc_core.specs.declared.event.Event.TheVariants.{Announce, Look, Propose, Read, Replay, Stop}
 use Rattle.uc_laws.proofs.Echoes.{counted, echoes, open_alike, run_echoes, with_replays}
 use Rattle.uc_laws.specs.Over.{OfEveryRunOver}
-use Rattle.uc_places.specs.CoreRun.{core_over}
+use Rattle.uc_laws.specs.CoreRun.{core_over}
 
 module _ (core : CoreState) (others : List ReplayState) where
   refused_by : (event : Event) (worker : WorkerState) (one other : ReplayState) → other.replayed ≡ one.replayed →

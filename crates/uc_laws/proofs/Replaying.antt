@@ -25,7 +25,7 @@ use Rattle.uc_laws.proofs.Answers.{are_answers}
 use Rattle.uc_laws.proofs.Echoed.{Laws}
 use Rattle.uc_laws.proofs.Growing.{grows, stands_on, there}
 use Rattle.uc_laws.proofs.Standing.{AllStand, IsOpened, all_stand_first, has_entries, learned_inside, opened, opened_on, sound_log, stand_after, stand_at_end}
-use Rattle.uc_places.specs.CoreRun.{core_over}
+use Rattle.uc_laws.specs.CoreRun.{core_over}
 
 -- how many places an event's worker has replayed, and another
 abbrev count_in : Option ReplayState → ℕ

@@ -29,7 +29,7 @@ use Rattle.uc_laws.proofs.Echoed.{Laws, are_learned, is_reached, prefixes_agree}
 use Rattle.uc_laws.proofs.Echoed as echoed
 use Rattle.uc_laws.proofs.Growing.{Grows, HasEntries, grows, grows_self, grows_through, log_at, log_long, map-agree, stands_on, take-begins}
 use Rattle.uc_laws.specs.Over.{TablesStandOver}
-use Rattle.uc_places.specs.CoreRun.{core_over}
+use Rattle.uc_laws.specs.CoreRun.{core_over}
 
 -- each worker's tables are those that the log was opened over, after the places that it has replayed
 abbrev pub AllStand : List TableState → CoreState → Type 0

@@ -1,1 +1,2 @@
+pub mod CoreRun
 pub mod Over

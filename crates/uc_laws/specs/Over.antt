@@ -15,7 +15,7 @@ use Rattle.uc_core.specs.Core.{CoreState, ReplayState, log_of}
 use Rattle.uc_core.specs.Headline.{Answered, HasReplica, replica_of}
 use Rattle.uc_core.specs.Run.{Given, Runs}
 use Rattle.uc_core.specs.declared.event.Event.{Event}
-use Rattle.uc_places.specs.CoreRun.{core_over}
+use Rattle.uc_laws.specs.CoreRun.{core_over}
 
 -- true of every run in which each worker begins with these tables, whatever the settings, the
 -- tables and the events: of the tables, of the core that the run leads to, and of the replies that

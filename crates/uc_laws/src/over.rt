@@ -11,7 +11,7 @@ ghost use Rattle.uc_core.specs.Asked.{AnnouncementsStand, FewProposals, IsOfSett
 ghost use Rattle.uc_core.specs.Core.{CoreState, core_size, new_core};
 ghost use Rattle.uc_core.specs.Headline.{AnswerAlike, AnsweredOnce, IsDecidedSoon, KeepsRealTime, LogIsSound, OwnAreAnswered, RepliesAreAnswers, ReplicasAgree, StandsAfterDecided, StepsAreEnabled, StopsForGood, TablesStand};
 ghost use Rattle.uc_core.specs.Run.{Given};
-ghost use Rattle.uc_places.specs.CoreRun.{core_over};
+ghost use Rattle.uc_laws.specs.CoreRun.{core_over};
 ghost use Rattle.uc_laws.specs.Over.{AnswerAlikeOver, ByEventsOver, EachHasATable, OfEveryRunOver, RepliesAreAnswersOver, TablesStandOver};
 
 /// What is true of every run over tables: of any settings, any tables, and any events of any

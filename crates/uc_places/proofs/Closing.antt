@@ -20,7 +20,7 @@ use Rattle.uc_places.specs.Rule.{IsKept}
 use Rattle.uc_places.specs.Run.{AreAmong, AreOneRun, all_parts, part_of}
 use Rattle.uc_places.specs.Seats.{desk_of}
 use Rattle.uc_places.specs.Told.{new_seat}
-use Rattle.uc_places.proofs.Moves.{TableState, is_reached, law, one_run, seated}
+use Rattle.uc_places.proofs.Moves.{TableState, each_seated, is_reached, law, one_run, seated}
 use Rattle.uc_places.proofs.Wording.{ticket_small}
 
 -- one more seat at the end
@@ -74,6 +74,7 @@ closes_bare size words slots final = let kept = final.1 in (
     sized = λ place part at. absurd (none-some part at);
     shown = λ place part at. absurd (none-some part at);
     own = λ place part at. absurd (none-some part at);
+    each = each_seated size final.0 kept;
   },
 )
 

@@ -9,4 +9,3 @@ pub mod Mirroring
 pub mod Spelled
 pub mod OwnEvents
 pub mod Between
-pub mod CoreRuns

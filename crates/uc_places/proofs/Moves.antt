@@ -2,7 +2,8 @@
 use Rattle.std.proofs.Common.{◌≡◌, ◌≢◌, ◌⊎◌, ℕ, zero, suc, ◌+◌, ◌%◌, ◌^◌, ◌<◌, ◌==◌, Bool, List, [], ◌∷◌, ◌++◌, length, map, get_or, set, sym, refl, ap, ◌∙◌, subst, inl, inr, ⊎_elim, arith, eq-eqb, ne_eqb, slice_get, unwrap_or, Option, Some, None}
 use Rattle.std.proofs.lemmas.List.Sums.{count_by-le-length}
 use Rattle.std.proofs.lemmas.Option.{none-some, same_Some, slice_get_within}
-use mathlib.Core.Option.{none, some}
+use mathlib.Core.Option.{none, some, some-injective, some-ne-none}
+use Rattle.std.proofs.Math.Decide.{ℕ_discrete}
 use lib.ListN.{get_elem?}
 use lib.Seq.{set-get_or}
 use prog.Atomic.{either}
@@ -25,7 +26,7 @@ use Rattle.uc_places.specs.declared.view.Kind.{Kind}
 use Rattle.uc_places.specs.declared.view.Kind.TheVariants.{Spare, Seated, Spent}
 use Rattle.uc_places.specs.declared.view.Part.{Part}
 use Rattle.uc_places.specs.declared.view.View.{View}
-use Rattle.uc_places.specs.Rule.{Fits, IsKept, Knows, OthersLead, Plays, PlaysAll, taker}
+use Rattle.uc_places.specs.Rule.{Fits, HasSeat, IsKept, IsOneOf, IsSeatFor, Knows, OthersLead, Plays, PlaysAll, taker}
 use Rattle.uc_places.specs.Run.{AreOneRun, HasMade, event_in, event_of, part_of, witnessed_by}
 use Rattle.uc_places.specs.Told.{AnnounceTells, Happens, IsTicketOf, LookTells, MeetTells, ProposeTells, ReadTells, SeatState, WitnessTells, keeping, moved_on}
 use Rattle.uc_places.specs.Words.{Shows, found_in, place_word, said_word}
@@ -40,7 +41,59 @@ TableState = State Unit View
 abbrev pub after : ShownState → List Ticket → ℕ → WorkerState → ShownState
 after log decided number worker = record { decided = decided; workers = set log.workers number worker }
 
+pub at_within : (views : List View) (id : ℕ) (view : View) → get_elem? views id ≡ some view → id < length views
+at_within [] id view at = absurd (some-ne-none view (sym at))
+at_within (first ∷ views) zero view at = omega arith
+at_within (first ∷ views) (suc id) view at = let within = at_within views id view at in omega (arith, within)
+
+-- a worker has its seat still, once a seat has another view that is the same workers'
+pub seat_still : (views : List View) (id : ℕ) (old new : View) → get_elem? views id ≡ some old → (there number : ℕ) →
+    (IsSeatFor number old old.kind → IsSeatFor number new new.kind) → HasSeat views there number → HasSeat (set views id new) there number
+seat_still views id old new at there number stays has = by_place (ℕ_discrete there id)
+  where
+    by_place : Dec (there ≡ id) → HasSeat (set views id new) there number
+    by_place (yes here) =
+        let same : has.view ≡ old = some-injective has.view old (sym has.there ∙ (ap (get_elem? views) here ∙ at)) in
+        record {
+          view = new;
+          there = ap (get_elem? (set views id new)) here ∙ table_lists.set_here views id new (at_within views id old at);
+          shows = stays (subst (λ (view : View). IsSeatFor number view view.kind) same has.shows);
+        }
+    by_place (no apart) = record {
+      view = has.view;
+      there = table_lists.set_else views id there new apart ∙ has.there;
+      shows = has.shows;
+    }
+
+-- a seat is a worker's as its parts say
+pub seated_for : (number : ℕ) (view : View) → view.kind ≡ Seated → IsOneOf number (part_of view ∷ view.joined) → IsSeatFor number view view.kind
+seated_for number view is one = subst (IsSeatFor number view) (sym is) one
+
+pub shown_for : (number : ℕ) (view : View) → view.kind ≡ Seated → IsSeatFor number view view.kind → IsOneOf number (part_of view ∷ view.joined)
+shown_for number view is shows = subst (IsSeatFor number view) is shows
+
+-- what a worker's seat has done, if it is one of these
+calls_of_one : (size : LogSize) (log : ShownState) (run : List ShownEvent) (owner : ℕ → ℕ) (id number : ℕ) (parts : List Part) →
+    PlaysAll size log run owner id parts → IsOneOf number parts → (calls : List Call) × HasMade run number calls
+calls_of_one size log run owner id number [] play one = absurd one
+calls_of_one size log run owner id number (part ∷ parts) play one = ⊎_elim
+    (λ (same : part.worker ≡ number). (part.calls, subst (λ (n : ℕ). HasMade run n part.calls) same play.1.3))
+    (λ (later : IsOneOf number parts). calls_of_one size log run owner id number parts play.3 later)
+    one
+
 module _ (size : LogSize) where
+  -- each worker's events are calls of its seat
+  pub each_seated : (s : TableState) (kept : IsKept size s) (number : ℕ) → number < size.workers → (calls : List Call) × HasMade kept.run number calls
+  each_seated s kept number inside = let has = kept.seated number inside in
+      by_kind has.view.kind (kept.fits (kept.owner number) has.view has.there).1 has.shows
+    where
+      by_kind : (kind : Kind) → Knows size kept.log kept.run kept.owner (kept.owner number) (kept.seated number inside).view kind →
+          IsSeatFor number (kept.seated number inside).view kind → (calls : List Call) × HasMade kept.run number calls
+      by_kind Spare knows shows = ([], (knows number shows inside).3)
+      by_kind Seated knows shows = calls_of_one size kept.log kept.run kept.owner (kept.owner number) number
+          (part_of (kept.seated number inside).view ∷ (kept.seated number inside).view.joined) knows.0 shows
+      by_kind Spent knows shows = absurd shows
+
   -- the invariant's state is reachable
   pub is_reached : (s : TableState) (kept : IsKept size s) → IsReached size kept.log
   is_reached s kept = reached size kept.run kept.log kept.leads
@@ -132,6 +185,8 @@ module _ (size : LogSize) where
                   some_view some_view.kind fits.1,
             ))
             (table_lists.at_set s.views id other moved some_view there);
+        seated = λ number inside. seat_still s.views id view moved at (kept.owner number) number
+            (λ shows. seated_for number moved is (shown_for number view is shows)) (kept.seated number inside);
       }
 
   happens : (s : TableState) (kept : IsKept size s) (id : ℕ) (view : View) (event : ShownEvent) (decided : List Ticket) (state : WorkerState) →
@@ -178,6 +233,7 @@ module _ (slots id : ℕ) (me : SeatState) (is : me.0.kind ≡ Seated) where
         sized = λ place part there. (play place part there).0;
         shown = λ place part there. (play place part there).1.1;
         own = λ place part there. (play place part there).1.3;
+        each = each_seated size s kept;
       }
 
   pub meets_word : (size : LogSize) → Allows (IsKept size) slots id me 0 (λ n. n) (MeetTells (step slots 0 0 0 none) me)
@@ -212,6 +268,8 @@ module _ (slots id : ℕ) (me : SeatState) (is : me.0.kind ≡ Seated) where
             ))
             (λ (apart : (other ≢ id) × (get_elem? s.views other ≡ some some_view)). kept.fits other some_view apart.1)
             (table_lists.at_set s.views id other new some_view there);
+        seated = λ number inside. seat_still s.views id me.0 new at (kept.owner number) number
+            (λ shows. seated_for number new is (shown_for number me.0 is shows)) (kept.seated number inside);
       }
 
   pub witnesses_word : (size : LogSize) → Allows (IsKept size) slots id me 0 (λ n. n) (WitnessTells (step slots 0 0 0 none) me)

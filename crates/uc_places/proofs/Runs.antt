@@ -13,7 +13,7 @@ use Rattle.uc_places.specs.declared.view.Call.{Call}
 use Rattle.uc_places.specs.declared.view.Call.TheVariants.{Announce, Look, Propose, Read}
 use Rattle.uc_places.specs.declared.view.Part.{Part}
 use Rattle.uc_places.specs.declared.view.Witnessed.{Witnessed}
-use Rattle.uc_places.specs.OneRun.{EachEventIsACall}
+use Rattle.uc_places.specs.OneRun.{EachEventIsACall, NothingButCalls}
 use Rattle.uc_places.specs.Rule.{AreOfOthers, taker}
 use Rattle.uc_places.specs.Run.{AreAmong, AreOneRun, HasMade, event_in, event_of, is_of, own_events}
 
@@ -85,6 +85,7 @@ among_run size parts all log among run = record {
   sized = λ place part at. let there = among place part at in run.sized there.0 part there.1;
   shown = λ place part at. let there = among place part at in run.shown there.0 part there.1;
   own = λ place part at. let there = among place part at in run.own there.0 part there.1;
+  each = run.each;
 }
 
 -- of two workers either may be named first
@@ -164,3 +165,17 @@ each_is_a_call size parts log one all at event is =
       seat.2,
       ap (λ (l : List ShownEvent). slice_get l call.0) (sym (one.own seat.0 seat.1 seat.2)) ∙ call.1,
     )
+
+-- what is among the events of calls is the event of one
+called : (number : ℕ) (calls : List Call) (at : ℕ) (event : ShownEvent) → slice_get (map (event_of number) calls) at ≡ Some event →
+    (call : Call) × (event ≡ event_of number call)
+called number [] at event is = absurd (none-some event is)
+called number (call ∷ calls) zero event is = (call, sym (same_Some _ _ is))
+called number (call ∷ calls) (suc at) event is = called number calls at event is
+
+pub nothing_but_calls : NothingButCalls
+nothing_but_calls size parts log one at event is =
+    let inside = takers_inside size one.run (new_log size) log at event ([], refl) one.lead is in
+    let own = among_own (taker event) one.run at event (own_taker event) is in let each = one.each (taker event) inside in
+    let call = called (taker event) each.0 own.0 event (ap (λ (l : List ShownEvent). slice_get l own.0) (sym each.1) ∙ own.1) in
+    (taker event, call.0, inside, call.1)

@@ -1,11 +1,13 @@
 -- The invariant holds at the opening, and is kept as seats are given out and lists are shared.
-use Rattle.std.proofs.Common.{◌≡◌, ◌≢◌, ◌⊎◌, ℕ, zero, suc, ◌+◌, ◌<◌, ◌==◌, Bool, true, false, cond, List, [], ◌∷◌, ◌++◌, length, length-set, replicate, set, sym, refl, ap, ◌∙◌, subst, inl, inr, ⊎_elim, arith, eq-eqb, ne_eqb, le_refl, slice_get, Some}
+use Rattle.std.proofs.Common.{◌≡◌, ◌≢◌, ◌⊎◌, ℕ, zero, suc, ◌+◌, ◌<◌, ◌≤◌, ◌==◌, Bool, true, false, cond, List, [], ◌∷◌, ◌++◌, length, length-set, replicate, set, sym, refl, ap, ◌∙◌, subst, inl, inr, ⊎_elim, arith, eq-eqb, ne_eqb, le_refl, slice_get, Some}
 use Rattle.std.specs.Prelude.{drop, slice_index}
 use Rattle.std.specs.Option.{option_map_or}
 use mathlib.Core.Option.{some, some-injective, some-ne-none}
 use lib.ListN.{get_elem?}
 use Rattle.atomic_table.specs.Table.{Joins, Splits, opening}
 use Rattle.atomic_table.proofs.Lists.{at_set}
+use Rattle.atomic_table.proofs.Lists as table_lists
+use Rattle.std.proofs.Math.Decide.{ℕ_discrete}
 use Rattle.mc_model.specs.declared.shown.LogSize.{LogSize}
 use Rattle.mc_model.specs.declared.shown.ShownState.{ShownState}
 use Rattle.mc_model.specs.Lawful.{ShownEvent}
@@ -15,19 +17,28 @@ use Rattle.uc_places.specs.declared.view.Kind.TheVariants.{Spare, Seated, Spent}
 use Rattle.uc_places.specs.declared.view.Part.{Part}
 use Rattle.uc_places.specs.declared.view.View.{View}
 use Rattle.uc_places.specs.declared.view.Witnessed.{Witnessed}
-use Rattle.uc_places.specs.Rule.{AreApart, Fits, IsKept, IsSmall, Knows, OthersLead, PlaysAll}
+use Rattle.uc_places.specs.Rule.{AreApart, Fits, HasSeat, IsKept, IsOneOf, IsSeatFor, IsSmall, Knows, OthersLead, PlaysAll}
 use Rattle.uc_places.specs.Run.{part_of}
 use Rattle.uc_places.specs.Told.{SeatState, fewer, first_of, joined_with, keeping, last_joined, parted, seat_again, spare_from, spent, told_list}
 use Rattle.uc_places.proofs.Followed.{none_lead}
-use Rattle.uc_places.proofs.Moves.{TableState, law, seated}
+use Rattle.uc_places.proofs.Moves.{TableState, at_within, law, seat_still, seated, seated_for, shown_for}
 use Rattle.uc_places.proofs.Wording.{announced_in}
 
 -- the same words, and other views
 review : (size : LogSize) (s : TableState) (kept : IsKept size s) (owner : ℕ → ℕ) (views : List View) →
     ((id : ℕ) (view : View) → get_elem? views id ≡ some view → Fits size kept.log kept.run owner id view) →
+    ((number : ℕ) → number < size.workers → HasSeat views (owner number) number) →
     IsKept size record { words = s.words; homes = s.homes; views = views }
-review size s kept owner views fits =
-    record { small = kept.small; run = kept.run; log = kept.log; leads = kept.leads; shows = kept.shows; owner = owner; fits = fits }
+review size s kept owner views fits seated = record {
+  small = kept.small;
+  run = kept.run;
+  log = kept.log;
+  leads = kept.leads;
+  shows = kept.shows;
+  owner = owner;
+  fits = fits;
+  seated = seated;
+}
 
 -- the new seat at the end, or one of those before
 at_last : (list : List View) (x y : View) (place : ℕ) → get_elem? (list ++ x ∷ []) place ≡ some y →
@@ -53,6 +64,17 @@ moved_own owner number id worker own = by_test (worker == number)
     by_test : (b : Bool) → cond b id (owner worker) ≡ id
     by_test true = refl
     by_test false = own
+
+-- one worker has another seat, and the others have theirs, as `moved_to` gives them
+all_seated : (size : LogSize) (owner : ℕ → ℕ) (number id : ℕ) (views : List View) → HasSeat views id number →
+    ((other : ℕ) → other ≢ number → other < size.workers → HasSeat views (owner other) other) →
+    (worker : ℕ) → worker < size.workers → HasSeat views (moved_to owner number id worker) worker
+all_seated size owner number id views here else worker inside = by_number (ℕ_discrete worker number)
+  where
+    by_number : Dec (worker ≡ number) → HasSeat views (moved_to owner number id worker) worker
+    by_number (yes same) = subst (λ (w : ℕ). HasSeat views (moved_to owner number id w) w) (sym same)
+        (subst (λ (there : ℕ). HasSeat views there number) (sym (moved_here owner number id)) here)
+    by_number (no apart) = subst (λ (there : ℕ). HasSeat views there worker) (sym (moved_else owner number id worker apart)) (else worker apart inside)
 
 -- a seat is still that of its workers by another list of seats that has them there too
 module _ (size : LogSize) (log : ShownState) (run : List ShownEvent) (owner new_owner : ℕ → ℕ) (id : ℕ)
@@ -81,13 +103,17 @@ module _ (size : LogSize) (s : TableState) (kept : IsKept size s) (number id sea
         (λ worker own. moved_else kept.owner number seat worker (λ h. apart (sym own ∙ (ap kept.owner h ∙ mine))) ∙ own) view view.kind fits.1,
   )
 
--- a seat is split in two, of which the second is the new seat of one of its workers
-splits : (size : LogSize) (s : TableState) (kept : IsKept size s) (id : ℕ) (left right : View) (number : ℕ) → kept.owner number ≡ id →
+-- a seat is split in two, of which the second is the new seat of one of its workers, and the first
+-- that of the others
+splits : (size : LogSize) (s : TableState) (kept : IsKept size s) (id : ℕ) (view left right : View) (number : ℕ) → kept.owner number ≡ id →
+    get_elem? s.views id ≡ some view →
+    ((other : ℕ) → other ≢ number → IsSeatFor other view view.kind → IsSeatFor other left left.kind) → IsSeatFor number right right.kind →
     Fits size kept.log kept.run (moved_to kept.owner number (length s.views)) id left →
     Fits size kept.log kept.run (moved_to kept.owner number (length s.views)) (length s.views) right →
     IsKept size record { words = s.words; homes = s.homes; views = set s.views id left ++ right ∷ [] }
-splits size s kept id left right number mine fits_left fits_right =
+splits size s kept id view left right number mine at keeps_left shows_right fits_left fits_right =
     let owner = moved_to kept.owner number (length s.views) in
+    let views = set s.views id left in
     review size s kept owner (set s.views id left ++ right ∷ []) (λ other there_view there. ⊎_elim
     (λ (was : get_elem? (set s.views id left) other ≡ some there_view). ⊎_elim
     (λ (r : (other ≡ id) × (left ≡ there_view)). subst (λ (z : ℕ × View). Fits size kept.log kept.run owner z.0 z.1) (λ i. (sym r.0 i, r.1 i)) fits_left)
@@ -96,12 +122,20 @@ splits size s kept id left right number mine fits_left fits_right =
     (λ (r : (other ≡ length (set s.views id left)) × (right ≡ there_view)).
     subst (λ (z : ℕ × View). Fits size kept.log kept.run owner z.0 z.1) (λ i. (sym (r.0 ∙ length-set s.views id left) i, r.1 i)) fits_right)
     (at_last (set s.views id left) right there_view other there))
+    (all_seated size kept.owner number (length s.views) (views ++ right ∷ [])
+    (record { view = right; there = table_lists.at_last views right (length s.views) (length-set s.views id left); shows = shows_right; })
+    (λ other apart inside.
+    let still = seat_still s.views id view left at (kept.owner other) other (keeps_left other apart) (kept.seated other inside) in
+    record { view = still.view; there = table_lists.at_longer views (right ∷ []) (kept.owner other) still.view still.there; shows = still.shows; }))
 
 -- a worker's seat becomes another one
 pub leaves : (size : LogSize) (id : ℕ) (view : View) → view.kind ≡ Seated → view.joined ≡ [] → Splits (IsKept size) id view spent view
 leaves size id view is alone s kept at = let mine = seated size s kept id view at is in let n : ℕ = length s.views in
     let owner = moved_to kept.owner view.worker n in
-    splits size s kept id spent view view.worker mine.0 ((λ h. absurd (h refl)), tt) (
+    splits size s kept id view spent view view.worker mine.0 at
+    (λ other apart shows. absurd (⊎_elim (λ (same : view.worker ≡ other). apart (sym same))
+    (λ (joined : IsOneOf other view.joined). subst (IsOneOf other) alone joined) (shown_for other view is shows)))
+    (seated_for view.worker view is (inl refl)) ((λ h. absurd (h refl)), tt) (
       (kept.fits id view at).0,
       subst (Knows size kept.log kept.run owner n view) (sym is) (
         subst (λ (parts : List Part). PlaysAll size kept.log kept.run owner n (part_of view ∷ parts)) (sym alone)
@@ -121,8 +155,9 @@ apart_from size log run owner id other worker theirs apart (part ∷ parts) play
 )
 
 pub joins : (size : LogSize) (id : ℕ) (view : View) (other : ℕ) (joining : View) → view.kind ≡ Seated → joining.kind ≡ Seated →
+    joining.joined ≡ [] →
     Joins (IsKept size) id view other joining (joined_with view joining) spent
-joins size id view other joining is theirs s kept at apart there =
+joins size id view other joining is theirs alone s kept at apart there =
     let new = joined_with view joining in
     let mine = seated size s kept id view at is in
     let was : get_elem? s.views other ≡ some joining = ⊎_elim
@@ -155,6 +190,18 @@ joins size id view other joining is theirs s kept at apart there =
     ))
     (λ (r : (j ≢ id) × (get_elem? s.views j ≡ some y)). stays size s kept joining.worker other id its.0 j y q.0 r.1) (at_set s.views id j new y q.1))
     (at_set (set s.views id new) other j spent y e))
+    (all_seated size kept.owner joining.worker id (set (set s.views id new) other spent)
+    (record {
+      view = new;
+      there = table_lists.set_else (set s.views id new) other id spent (λ same. apart (sym same)) ∙ table_lists.set_here s.views id new (at_within s.views id view at);
+      shows = seated_for joining.worker new is (inr (inl refl));
+    })
+    (λ worker not inside. seat_still (set s.views id new) other joining spent there (kept.owner worker) worker
+    (λ shows. absurd (⊎_elim (λ (same : joining.worker ≡ worker). not (sym same))
+    (λ (joined : IsOneOf worker joining.joined). subst (IsOneOf worker) alone joined) (shown_for worker joining theirs shows)))
+    (seat_still s.views id view new at (kept.owner worker) worker
+    (λ shows. seated_for worker new is (⊎_elim (λ (same : view.worker ≡ worker). inl same)
+    (λ (joined : IsOneOf worker view.joined). inr (inr joined)) (shown_for worker view is shows))) (kept.seated worker inside))))
 
 -- the only seat that was joined into another is split off again
 pub parts : (size : LogSize) (id : ℕ) (view : View) (part : Part) → view.kind ≡ Seated → view.joined ≡ part ∷ [] →
@@ -164,7 +211,12 @@ parts size id view part is one s kept at =
     let play = subst (λ (parts : List Part). PlaysAll size kept.log kept.run kept.owner id (part_of view ∷ parts)) one mine.5 in
     let its = play.3 in let owner = moved_to kept.owner part.worker n in
     let begins = ((law size s kept).each view.worker view.state mine.1).begins in
-    splits size s kept id (parted view) (last_joined view) part.worker its.1.0 (
+    splits size s kept id view (parted view) (last_joined view) part.worker its.1.0 at
+    (λ other apart shows. seated_for other (parted view) is (⊎_elim (λ (same : view.worker ≡ other). inl same)
+    (λ (joined : IsOneOf other view.joined). ⊎_elim (λ (same : part.worker ≡ other). absurd (apart (sym same))) (λ (none : ⊥). absurd none)
+    (subst (IsOneOf other) one joined)) (shown_for other view is shows)))
+    (subst (λ (parts : List Part). let given = option_map_or (seat_again view.state.learned) (slice_get parts 0) spent in IsSeatFor part.worker given given.kind)
+    (sym one) (inl refl)) (
       (kept.fits id view at).0,
       subst (Knows size kept.log kept.run owner id (parted view)) (sym is) (
         subst (λ (parts : List Part). PlaysAll size kept.log kept.run owner id (part_of view ∷ drop 1 parts)) (sym one) (
@@ -207,6 +259,12 @@ pub gives_back : (host view joining : View) (seat : SeatState) → host ≡ join
 gives_back host view joining seat is split seated alone = ap (λ (m : SeatState). m.0) split
     ∙ (ap last_joined is ∙ (λ i. record (told_list joining view.state.learned) { kind = sym seated i; joined = sym alone i }))
 
+le_and_ne : (low high : ℕ) → low ≤ high → low ≢ high → low + 1 ≤ high
+le_and_ne zero zero below apart = absurd (apart refl)
+le_and_ne zero (suc high) below apart = omega arith
+le_and_ne (suc low) zero below apart = absurd (let no : ⊥ = omega (arith, below) in no)
+le_and_ne (suc low) (suc high) below apart = let more = le_and_ne low high (omega (arith, below)) (λ same. apart (ap suc same)) in omega (arith, more)
+
 -- the spare seat gives out the seat of its first worker
 pub deals : (size : LogSize) (id : ℕ) (view : View) → view.kind ≡ Spare → view.worker < view.size.workers →
     Splits (IsKept size) id view (fewer view) (first_of view)
@@ -216,7 +274,9 @@ deals size id view is below s kept at =
     let mine = subst (Knows size kept.log kept.run kept.owner id view) is (kept.fits id view at).1 in
     let first = mine view.worker (le_refl view.worker) inside in
     let n : ℕ = length s.views in
-    splits size s kept id (fewer view) (first_of view) view.worker first.0 (
+    splits size s kept id view (fewer view) (first_of view) view.worker first.0 at
+    (λ other apart shows. let low : view.worker ≤ other = subst (IsSeatFor other view) is shows in le_and_ne view.worker other low (λ same. apart (sym same)))
+    (inl refl) (
       (λ _. e),
       (λ worker low high. let m = mine worker (omega arith) high in (
         moved_else kept.owner view.worker n worker (λ h. omega arith)
@@ -260,6 +320,7 @@ starts size words small wide first blank = record {
   };
   owner = λ _. 0;
   fits = λ id view at. by_seat id view at;
+  seated = λ number inside. record { view = spare_from size 0; there = refl; shows = omega arith; };
 }
   where
     all_new : (workers number : ℕ) → number < workers → slice_get (replicate workers new_worker) number ≡ Some new_worker

@@ -1,12 +1,11 @@
 -- What a seat knows, as the numbers that code keeps, and what words encode; this project's profile.
-use Rattle.std.specs.Prelude.{◌≡◌, ◌≢◌, ℕ, ◌+◌, ◌-◌, ◌<◌, ◌≤◌, Bool, List, length, slice_get, slice_index, slice_set, ltb, if◌then◌else◌, Some}
+use Rattle.std.specs.Prelude.{◌≡◌, ◌≢◌, ℕ, ◌+◌, ◌-◌, ◌<◌, ◌≤◌, ◌==◌, ◌&&◌, Bool, List, length, slice_get, slice_index, slice_set, ltb, if◌then◌else◌, Some}
 use Rattle.mc_model.specs.declared.id.TheConstants.{WORKERS}
 use Rattle.mc_model.specs.declared.id.Ticket.{Ticket}
 use Rattle.mc_model.specs.declared.shown.Phase.{Phase}
 use Rattle.mc_model.specs.declared.shown.Phase.TheVariants.{Idle, Looked}
 use Rattle.mc_model.specs.Legal.{count, ticket_of}
 use Rattle.mc_model.specs.Shown.{marked, proposal}
-use Rattle.uc_core.specs.Kept.{is_latest_of}
 use Rattle.uc_places.specs.declared.desk.Numbers.{Numbers}
 use Rattle.uc_places.specs.declared.view.Kind.TheVariants.{Seated}
 use Rattle.uc_places.specs.declared.view.View.{View}
@@ -44,7 +43,8 @@ marked_here numbers = record numbers { mark = marked numbers.phase numbers.mark 
 
 -- the ticket is that of the command that the worker announced last
 abbrev pub owns : Numbers → Ticket → Bool
-owns numbers ticket = is_latest_of numbers.worker numbers.announced ticket
+owns numbers ticket =
+    ticket.worker == numbers.worker && ticket.number + 1 == numbers.announced
 
 -- one more ticket is learned: the worker becomes idle if the ticket is its own, and otherwise takes
 -- the given phase

@@ -9,4 +9,3 @@ pub mod Calls
 pub mod Seats
 pub mod End
 pub mod OneRun
-pub mod CoreRun

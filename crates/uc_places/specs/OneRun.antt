@@ -66,3 +66,11 @@ EachEventIsACall = (size : LogSize) (parts : List Part) (log : ShownState) →
     (at : ℕ) (event : ShownEvent) → slice_get one.run at ≡ Some event →
     (place call : ℕ) × (part : Part) × (slice_get parts place ≡ Some part)
     × (slice_get (map (event_of part.worker) part.calls) call ≡ Some event)
+
+-- if some seats are on one run, each event of the run is a call of its worker's seat, whether that
+-- is among them or not
+abbrev pub NothingButCalls : Type 0
+NothingButCalls = (size : LogSize) (parts : List Part) (log : ShownState) →
+    (one : AreOneRun size parts log) →
+    (at : ℕ) (event : ShownEvent) → slice_get one.run at ≡ Some event →
+    (number : ℕ) × (call : Call) × (number < size.workers) × (event ≡ event_of number call)

@@ -1,5 +1,5 @@
 -- The invariant of the shared words. At every moment there is a run of the log from its opening, of
--- which five things hold.
+-- which six things hold.
 --   The words show the state that it leads to (`Shows`): how many commands each worker has
 --   announced, and which ticket stands at each place.
 --   Each worker's one seat shows its worker: what the seat knows of its worker is exactly that
@@ -8,11 +8,13 @@
 --   there to the present state.
 --   Each seat keeps its calls, and these, in order, are exactly the run's events of its worker.
 --   The run begins with the events that a seat has witnessed.
+--   Each worker has a seat: its own, one into which that was joined, or the spare one until its own
+--   is given out. So the run has no event that isn't a call of a seat.
 -- So a call can only be one event of its own worker, from a reachable state, and only events of
 -- other workers lie between two calls of a seat; and the calls of all seats are one run.
 -- The log is that of Herlihy's universal construction (Wait-Free Synchronization, TOPLAS 1991);
 -- words, seats and this invariant are this project's own.
-use Rattle.std.specs.Prelude.{◌≡◌, ◌≢◌, ℕ, ◌<◌, ◌≤◌, List, [], ◌∷◌}
+use Rattle.std.specs.Prelude.{◌≡◌, ◌≢◌, ◌⊎◌, ℕ, ◌<◌, ◌≤◌, List, [], ◌∷◌}
 use mathlib.Core.Option.{some}
 use lib.ListN.{get_elem?}
 use Rattle.atomic_table.specs.Table.{State}
@@ -59,6 +61,24 @@ abbrev pub AreApart : ℕ → List Part → Type 0
 AreApart number [] = Unit {0}
 AreApart number (part ∷ parts) = (part.worker ≢ number) × AreApart number parts
 
+-- one of these is this worker's
+abbrev pub IsOneOf : ℕ → List Part → Type 0
+IsOneOf number [] = ⊥
+IsOneOf number (part ∷ parts) = (part.worker ≡ number) ⊎ IsOneOf number parts
+
+-- a seat with this view, of this kind, is this worker's: the spare seat, if it stands for the
+-- worker's; or one that shows the worker
+abbrev pub IsSeatFor : ℕ → View → Kind → Type 0
+IsSeatFor number view Spare = view.worker ≤ number
+IsSeatFor number view Seated = IsOneOf number (all_parts view)
+IsSeatFor number view Spent = ⊥
+
+-- the seat `id` among these is this worker's
+pub record HasSeat (views : List View) (id number : ℕ) : Type 0 where
+  pub view : View
+  pub there : get_elem? views id ≡ some view
+  pub shows : IsSeatFor number view view.kind
+
 -- what is true of the view of the table's seat `id`, by the kind of that seat; `owner` gives each
 -- worker's seat
 module _ (size : LogSize) (log : ShownState) (run : List ShownEvent) (owner : ℕ → ℕ) (id : ℕ) where
@@ -99,3 +119,4 @@ pub record IsKept (size : LogSize) (table : State Unit View) : Type 0 where
   pub owner : ℕ → ℕ
   pub fits : (id : ℕ) (view : View) → get_elem? table.views id ≡ some view →
       Fits size log run owner id view
+  pub seated : (number : ℕ) → number < size.workers → HasSeat table.views (owner number) number

@@ -1,6 +1,6 @@
 -- Runs of the log, and which of a run's events are a worker's own: a history, and the subhistory of
 -- one process in it (Herlihy and Wing, Linearizability, TOPLAS 1990).
-use Rattle.std.specs.Prelude.{◌≡◌, ℕ, ◌==◌, ◌∷◌, Bool, List, map, slice_get, Some}
+use Rattle.std.specs.Prelude.{◌≡◌, ℕ, ◌==◌, ◌<◌, ◌∷◌, Bool, List, map, slice_get, Some}
 use Rattle.std.specs.List.{filter}
 use Rattle.std.specs.Option.{option_map_or}
 use Rattle.mc_model.specs.declared.shown.LogSize.{LogSize}
@@ -75,7 +75,8 @@ witnessed_by view = map event_in view.witnessed
 
 -- One run has all calls of these workers' seats, and no other events of the workers: it leads from
 -- the opening to this state of the log, in which each worker is as its seat shows it, and each
--- worker's own events in it are exactly the calls of its seat, in order.
+-- worker's own events in it are exactly the calls of its seat, in order. The events of every other
+-- worker of the log are calls of a seat too.
 pub record AreOneRun (size : LogSize) (parts : List Part) (log : ShownState) : Type 0 where
   pub run : List ShownEvent
   pub lead : LeadOn size (new_log size) run log
@@ -84,3 +85,4 @@ pub record AreOneRun (size : LogSize) (parts : List Part) (log : ShownState) : T
       IsWorker log part.worker part.state
   pub own : (place : ℕ) (part : Part) → slice_get parts place ≡ Some part →
       HasMade run part.worker part.calls
+  pub each : (number : ℕ) → number < size.workers → (calls : List Call) × HasMade run number calls

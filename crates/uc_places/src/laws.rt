@@ -5,9 +5,8 @@ ghost use Rattle.lists.specs.Lists.{BeginsWith};
 ghost use Rattle.mc_model.specs.declared.id.Ticket.{Ticket};
 ghost use Rattle.mc_model.specs.declared.shown.LogSize.{LogSize};
 ghost use Rattle.uc_places.specs.Calls.{last_of, state_of, worker_of};
-ghost use Rattle.uc_places.specs.CoreRun.{RunsAsCore};
 ghost use Rattle.uc_places.specs.End.{IsEnd};
-ghost use Rattle.uc_places.specs.OneRun.{CallsLieOnOneRun, EachEventIsACall, OthersLeaveIt, RunsBetween};
+ghost use Rattle.uc_places.specs.OneRun.{CallsLieOnOneRun, EachEventIsACall, NothingButCalls, OthersLeaveIt, RunsBetween};
 ghost use Rattle.uc_places.specs.Seats.{desk_of};
 ghost use Rattle.uc_places.specs.declared.seats.Seat.{Seat};
 
@@ -23,21 +22,16 @@ pub fn calls_lie_on_one_run()
 
 /// The calls of all workers' seats that are on one run are all its events.
 pub fn all_calls_are_the_run()
-    // Each event of the run is a call of one of the seats.
-    ensures { EachEventIsACall }
+    // Each event of the run is a call of one of the seats, if these are all workers'.
+    ensures seats { EachEventIsACall }
+    // It is a call of its worker's seat, whoever's the seats are.
+    ensures calls { NothingButCalls }
 {}
 
 /// If a worker has taken no event between two moments of a run, each moment between them has
 /// exactly the calls that it had made, and shows the worker as it was.
 pub fn a_worker_stays_between_two_moments()
     ensures { RunsBetween }
-{}
-
-/// Any run of the log is a run of the core, the machine of the headline, whatever was announced
-/// under its tickets by known tenants, and however much of what it has learned each worker has
-/// replayed.
-pub fn a_run_of_the_log_is_one_of_the_core()
-    ensures { RunsAsCore }
 {}
 
 /// The log that `close` gives goes on from where its first seat was.

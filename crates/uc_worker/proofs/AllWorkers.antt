@@ -190,6 +190,9 @@ one_run_of_all law start one two three before between after still on first_still
     sized = λ place part at. sized place part at;
     shown = λ place part at. shown place part at;
     own = λ place part at. made place part at;
+    each = λ number inside.
+        let calls = here.one.each number (subst (λ (z : LogSize). number < z.workers) (sym same_size) inside) in
+        (calls.0, subst (λ (run : List ShownEvent). HasMade run number calls.0) here.is calls.1);
   },
 )
   where

@@ -9,7 +9,7 @@ use Rattle.mc_model.specs.State.{TableState}
 use Rattle.uc_cells.specs.Sighting.{Sighting, entries}
 use Rattle.uc_core.specs.Core.{entry_under, log_of}
 use Rattle.uc_log.specs.declared.log.Log.{Log}
-use Rattle.uc_places.specs.CoreRun.{RunsAsCore}
+use Rattle.uc_laws.specs.CoreRun.{RunsAsCore}
 use Rattle.uc_worker.specs.declared.worker.Worker.{Worker}
 use Rattle.uc_worker.specs.AllWorkers.{AreAllOf, AreOnOneRun, AreOver, ClosedLogsRunTheCore, DoOneCoreRun, OwnHaveTheirReplies}
 use Rattle.uc_worker.specs.TurningOver.{HaveOneHistory, IsUpToDateAt}

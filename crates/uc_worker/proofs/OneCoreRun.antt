@@ -19,7 +19,7 @@ use Rattle.mc_model.specs.State.{TableState}
 use Rattle.uc_cells.specs.Sighting.{Sighting, entries}
 use Rattle.uc_core.specs.Core.{entry_under, log_of}
 use Rattle.uc_log.specs.declared.log.Log.{Log}
-use Rattle.uc_places.specs.CoreRun.{CanReplay, IsCoreRun, RunsAsCore, entry_by, log_size}
+use Rattle.uc_laws.specs.CoreRun.{CanReplay, IsCoreRun, RunsAsCore, entry_by, log_size}
 use Rattle.uc_worker.specs.declared.worker.Worker.{Worker}
 use Rattle.uc_worker.specs.AllWorkers.{AllDoOneCoreRun, AreAllOf, AreOnOneRun, HaveReplayed, own_part, put_under, places_replayed_by, said_under}
 use Rattle.uc_worker.specs.Histories.{AreDecided, HoldsCommand}

@@ -19,7 +19,7 @@ use Rattle.uc_core.specs.Core.{ReplayState, core_size, entry_under, log_of}
 use Rattle.uc_core.specs.Headline.{HasReply, OwnAreAnswered}
 use Rattle.uc_core.specs.Run.{Runs, replayed_by}
 use Rattle.uc_laws.specs.Over.{ByEventsOver, EachHasATable, IsAnswerOver, OfEveryRunOver, RepliesAreAnswersOver}
-use Rattle.uc_places.specs.CoreRun.{core_over}
+use Rattle.uc_laws.specs.CoreRun.{core_over}
 use Rattle.uc_worker.specs.declared.worker.Worker.{Worker}
 use Rattle.uc_worker.specs.AllWorkers.{DoOneCoreRun, OwnHaveTheirReplies, own_part}
 use Rattle.uc_worker.specs.TurningOver.{HaveOneHistory}

@@ -9,7 +9,7 @@ use Rattle.mc_model.specs.declared.shown.WorkerState.{WorkerState}
 use Rattle.mc_model.specs.Lawful.{IsWorker, LeadOn, ShownEvent, Step, announces, looks, proposes, reads, stops}
 use Rattle.mc_model.specs.Shown.{new_log, new_worker}
 use Rattle.uc_places.specs.declared.view.Part.{Part}
-use Rattle.uc_places.specs.CoreRun.{CanReplay, RunsAsCore}
+use Rattle.uc_laws.specs.CoreRun.{CanReplay, RunsAsCore}
 use Rattle.uc_worker.specs.AllWorkers.{TheyRunTheCore, own_part}
 use Rattle.uc_worker.specs.Worker.{history_of, seat_of}
 use Rattle.uc_worker.proofs.AllWorkers.{mapped}

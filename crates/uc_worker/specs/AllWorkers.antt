@@ -20,7 +20,7 @@ use Rattle.uc_core.specs.Core.{CoreState, entry_under, log_of}
 use Rattle.uc_core.specs.Run.{Given}
 use Rattle.uc_log.specs.declared.log.Log.{Log}
 use Rattle.uc_places.specs.declared.view.Part.{Part}
-use Rattle.uc_places.specs.CoreRun.{IsCoreRun, log_size}
+use Rattle.uc_laws.specs.CoreRun.{IsCoreRun, log_size}
 use Rattle.uc_places.specs.OneRun.{AreOfAll}
 use Rattle.uc_places.specs.Run.{AreOneRun, HasMade, part_of}
 use Rattle.uc_worker.specs.declared.worker.Worker.{Worker}

@@ -6,7 +6,7 @@ ghost use Rattle.mc_model.specs.Replay.{empty_tables};
 ghost use Rattle.mc_model.specs.Settings.{Configuration};
 ghost use Rattle.uc_core.specs.Core.{new_core};
 ghost use Rattle.uc_places.specs.Calls.{WitnessWith, Witnesses};
-ghost use Rattle.uc_places.specs.CoreRun.{core_over};
+ghost use Rattle.uc_laws.specs.CoreRun.{core_over};
 ghost use Rattle.uc_places.specs.Run.{witnessed_by};
 ghost use Rattle.uc_worker.specs.AllWorkers.{AllDoOneCoreRun, AreOfItsLog, AreOfLog, AreOnOneRun, ClosedLogsRunTheCore, NothingIsDecidedBehindAll, OwnHaveTheirReplies, TakesNoStep, TheyRunTheCore, WasSo, own_part};
 ghost use Rattle.uc_worker.specs.Going.{CatchesUp};
@@ -15,7 +15,8 @@ ghost use Rattle.uc_worker.specs.Worker.{own_desk, seat_of};
 
 use crate::worker::Worker;
 use uc_log::Log;
-use uc_places::laws::{a_run_of_the_log_is_one_of_the_core, a_worker_stays_between_two_moments};
+use uc_laws::a_run_of_the_log_is_one_of_the_core;
+use uc_places::laws::a_worker_stays_between_two_moments;
 
 impl<'a> Worker<'a> {
     /// Keeps the run of the log up to now.

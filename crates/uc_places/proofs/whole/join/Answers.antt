@@ -19,7 +19,7 @@ join_seat-requires c = let d = c.args.desk in let words = d.words in let few = a
       c.requires.place,
       d.holds_no_slot,
       omega arith,
-      joins _ c.in-Some.host.id c.in-Some.host.me.0 d.seat.id d.seat.me.0 host.1 d.mirrors.seated,
+      joins _ c.in-Some.host.id c.in-Some.host.me.0 d.seat.id d.seat.me.0 host.1 d.mirrors.seated d.alone,
     )
 
 pub returns-clause-parts : goal.returns-clause-parts

@@ -28,7 +28,7 @@ use Rattle.uc_core.specs.Run.{Given, Runs, given_by, replayed_by}
 use Rattle.uc_core.specs.Step.{CoreStep, entry_at, with_entry}
 use Rattle.uc_core.specs.declared.event.Event.{Event}
 use Rattle.uc_core.specs.declared.event.Event.TheVariants.{Announce, Look, Propose, Read, Replay, Stop}
-use Rattle.uc_places.specs.CoreRun.{CanReplay, RunsAsCore, core_over, entry_by, log_event, log_size}
+use Rattle.uc_laws.specs.CoreRun.{CanReplay, RunsAsCore, core_over, entry_by, log_event, log_size}
 
 -- one run of the core follows another
 runs_then : (one two three : CoreState) (events more : List Event) (given later : List Given) → Runs one events two given → Runs two more three later →

@@ -1,6 +1,0 @@
--- `CoreRuns` shows it.
-use Rattle.uc_places.proofs.CoreRuns.{runs_as_core}
-use Rattle.uc_places.proofs.laws.a_run_of_the_log_is_one_of_the_core.Goals as goal
-
-pub returns : goal.returns
-returns c = runs_as_core
