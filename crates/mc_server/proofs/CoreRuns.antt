@@ -12,7 +12,7 @@ use Rattle.mc_server.specs.Crew.{AreWorkersOf, HaveClosed, number_of}
 use Rattle.mc_server.specs.Listeners.{CountsFrom}
 use Rattle.mc_server.specs.Logs.{AreOpenedOver, ServesInTwo}
 use Rattle.uc_log.specs.declared.log.Log.{Log}
-use Rattle.uc_worker.specs.AllWorkers.{AllDoOneCoreRun, AreAllOf, AreOver, ClosedLogsRunTheCore, DoOneCoreRun, HaveRunTheCore, NothingIsDecidedBehindAll}
+use Rattle.uc_refinement.specs.Refinement.{AllDoOneCoreRun, AreAllOf, AreOver, ClosedLogsRunTheCore, DoOneCoreRun, HaveRunTheCore, NothingIsDecidedBehindAll}
 use Rattle.uc_worker.specs.Going.{Continues}
 use Rattle.uc_worker.specs.Worker.{openings_of}
 use Rattle.uc_worker.specs.declared.worker.Worker.{Worker}

@@ -12,7 +12,7 @@ use Rattle.mc_model.specs.State.{TableState}
 use Rattle.mc_server.specs.Crew.{HaveClosed}
 use Rattle.mc_server.specs.Logs.{AreOpenedOver, WereServed}
 use Rattle.uc_log.specs.declared.log.Log.{Log}
-use Rattle.uc_worker.specs.AllWorkers.{DoOneCoreRun, HaveRunTheCore}
+use Rattle.uc_refinement.specs.Refinement.{DoOneCoreRun, HaveRunTheCore}
 use Rattle.uc_worker.specs.Going.{Continues}
 use Rattle.uc_worker.specs.Worker.{announced_of, seat_of}
 use Rattle.uc_worker.specs.declared.worker.Worker.{Worker}

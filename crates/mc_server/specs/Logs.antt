@@ -21,7 +21,8 @@ use Rattle.uc_worker.specs.Cited.{entries}
 use Rattle.uc_log.specs.declared.log.Log.{Log}
 use Rattle.uc_log.specs.declared.pass.Pass.{Pass}
 use Rattle.uc_log.specs.Passes.{IsNew, IsUnusedPass, seat}
-use Rattle.uc_worker.specs.AllWorkers.{AreOnOneRun, AreOver}
+use Rattle.uc_refinement.specs.Refinement.{AreOver}
+use Rattle.uc_worker.specs.AllWorkers.{AreOnOneRun}
 use Rattle.uc_worker.specs.Going.{CatchesUp, Continues}
 use Rattle.uc_worker.specs.Worker.{history_of, openings_of, seat_of, tables_of}
 use Rattle.uc_worker.specs.declared.turning_over.Base.{Base}

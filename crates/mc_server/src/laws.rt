@@ -12,7 +12,7 @@ pub fn each_log_is_one_run_of_the_core()
     // So is what those of the last log had done as they came back, before they met.
     ensures back { LastLogsComeBackOnCoreRuns }
 {
-    uc_worker::all_workers::all_workers_run_the_core();
+    uc_refinement::all_workers_run_the_core();
     uc_worker::laws::workers_go_on();
 }
 
@@ -21,7 +21,7 @@ pub fn each_log_is_one_run_of_the_core()
 pub fn closed_logs_have_no_other_commands()
     ensures { ClosedLogsDecidedNoMore }
 {
-    uc_worker::all_workers::nothing_is_decided_behind_all();
+    uc_refinement::nothing_is_decided_behind_all();
 }
 
 /// Of two commands of a worker that stand in its log's run, the one that it announced first stands

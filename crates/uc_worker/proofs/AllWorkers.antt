@@ -174,6 +174,22 @@ mapped f [] k y at = absurd (none-some y at)
 mapped f (x ∷ xs) zero y at = (x, refl, same_Some _ _ at)
 mapped f (x ∷ xs) (suc k) y at = mapped f xs k y at
 
+-- nobody is on a run of nothing
+pub nobody_on_one_run : (workers : List Worker) → length workers ≡ 0 → AreOnOneRun workers
+nobody_on_one_run [] none = (
+  record { workers = 0; places = 0 },
+  new_log (record { workers = 0; places = 0 }),
+  record {
+    run = [];
+    lead = refl;
+    sized = λ place part at. absurd (none-some part at);
+    shown = λ place part at. absurd (none-some part at);
+    own = λ place part at. absurd (none-some part at);
+    each = λ number inside. let no : ⊥ = omega (arith, inside) in absurd no;
+  },
+)
+nobody_on_one_run (x ∷ workers) none = absurd (omega (arith, none))
+
 -- The worker kept the run together with each other, then by itself, and then with each other again.
 pub one_run_of_all : RunsBetween → (start one two three : Worker) (before between after : List Worker) → TakesNoStep one two → TakesNoStep two three →
     AllZip TakesNoStep before between → AllZip TakesNoStep between after →

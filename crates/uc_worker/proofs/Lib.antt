@@ -11,10 +11,4 @@ pub mod Owning
 pub mod Closing
 pub mod TurningOver
 pub mod AllWorkers
-pub mod PartsOfOneRun
-pub mod RunsOfTheCore
-pub mod OneCoreRun
-pub mod OwnReplies
 pub mod Unsettled
-pub mod Behind
-pub mod ClosedRuns

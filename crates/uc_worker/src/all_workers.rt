@@ -2,20 +2,15 @@
 ghost use Rattle.std.specs.List.{AllZip};
 ghost use Rattle.std.specs.Prelude.{◌≡◌, ◌<◌, ◌∷◌, All, List, [], length};
 ghost use Rattle.lists.specs.Lists.{BeginsWith};
-ghost use Rattle.mc_model.specs.Replay.{empty_tables};
-ghost use Rattle.mc_model.specs.Settings.{Configuration};
-ghost use Rattle.uc_core.specs.Core.{new_core};
 ghost use Rattle.uc_places.specs.Calls.{WitnessWith, Witnesses};
-ghost use Rattle.uc_laws.specs.CoreRun.{core_over};
 ghost use Rattle.uc_places.specs.Run.{witnessed_by};
-ghost use Rattle.uc_worker.specs.AllWorkers.{AllDoOneCoreRun, AreOfItsLog, AreOfLog, AreOnOneRun, ClosedLogsRunTheCore, NothingIsDecidedBehindAll, OwnHaveTheirReplies, TakesNoStep, TheyRunTheCore, WasSo, own_part};
+ghost use Rattle.uc_worker.specs.AllWorkers.{AreOfItsLog, AreOfLog, AreOnOneRun, TakesNoStep, WasSo, own_part};
 ghost use Rattle.uc_worker.specs.Going.{CatchesUp};
 ghost use Rattle.uc_worker.specs.TurningOver.{IsAsBefore};
 ghost use Rattle.uc_worker.specs.Worker.{own_desk, seat_of};
 
 use crate::worker::Worker;
 use uc_log::Log;
-use uc_laws::a_run_of_the_log_is_one_of_the_core;
 use uc_places::laws::a_worker_stays_between_two_moments;
 
 impl<'a> Worker<'a> {
@@ -129,33 +124,4 @@ pub fn find_run_of_all(log: &Log, workers: &mut [Worker<'_>])
         return;
     }
     find_run_of_first(workers);
-}
-
-/// Where all workers of a log have replayed the same number of places, and all that they have
-/// learned, the log's run has decided these places and no others. So a log that is turned over has
-/// no command that its history lacks.
-pub fn nothing_is_decided_behind_all()
-    ensures { NothingIsDecidedBehindAll }
-{}
-
-/// What all workers of a log have done, if one run has it all, is a run of the core, the machine of
-/// the headline, in which each worker has replayed as many places as its history has.
-pub fn all_workers_run_the_core()
-    // Each ticket's tenant and command may be given to it: the run of the log has none.
-    ensures given { TheyRunTheCore }
-    // They may be those that the workers have put into their cells: then each worker's history has
-    // what stands in that run.
-    ensures put { AllDoOneCoreRun }
-    // Over empty tables, those of a first log, the core opens as it does in the headline's runs,
-    ensures opening { (settings : Configuration) →
-        core_over settings (empty_tables settings.tenants) ≡ new_core settings }
-    // and over any tables it answers each worker's own commands with the replies that
-    // `Worker::submit` gives.
-    ensures replies { OwnHaveTheirReplies }
-    // Where the workers have closed their log, its history is all of the core's log.
-    ensures closed { ClosedLogsRunTheCore }
-{
-    a_run_of_the_log_is_one_of_the_core();
-    uc_laws::laws_over_tables();
-    uc_laws::runs_over_tables_do_what_is_asked();
 }

@@ -1,8 +1,7 @@
 -- They are of one log; and nobody is on a run of nothing.
 use Rattle.std.proofs.Common.{◌∙◌, length, sym}
 use Rattle.std.proofs.lemmas.Bool.{eqb-true}
-use Rattle.uc_worker.proofs.AllWorkers.{all_as_before, all_quiet, are_of_first}
-use Rattle.uc_worker.proofs.PartsOfOneRun.{nobody_on_one_run}
+use Rattle.uc_worker.proofs.AllWorkers.{all_as_before, all_quiet, are_of_first, nobody_on_one_run}
 use Rattle.uc_worker.proofs.all_workers.find_run_of_all.Goals as goal
 
 pub returns-then-is_empty-clause-run : goal.returns-then-is_empty-clause-run

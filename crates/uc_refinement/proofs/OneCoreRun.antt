@@ -21,11 +21,12 @@ use Rattle.uc_core.specs.Core.{entry_under, log_of}
 use Rattle.uc_log.specs.declared.log.Log.{Log}
 use Rattle.uc_laws.specs.CoreRun.{CanReplay, IsCoreRun, RunsAsCore, entry_by, log_size}
 use Rattle.uc_worker.specs.declared.worker.Worker.{Worker}
-use Rattle.uc_worker.specs.AllWorkers.{AllDoOneCoreRun, AreAllOf, AreOnOneRun, HaveReplayed, own_part, put_under, places_replayed_by, said_under}
+use Rattle.uc_refinement.specs.Refinement.{AllDoOneCoreRun, AreAllOf, HaveReplayed, put_under, places_replayed_by, said_under}
+use Rattle.uc_worker.specs.AllWorkers.{AreOnOneRun, own_part}
 use Rattle.uc_worker.specs.Histories.{AreDecided, HoldsCommand}
 use Rattle.uc_worker.specs.TurningOver.{HaveOneHistory}
 use Rattle.uc_worker.specs.Worker.{announced_of, history_of}
-use Rattle.uc_worker.proofs.PartsOfOneRun.{lawful, made_at, shown_at, sized}
+use Rattle.uc_refinement.proofs.PartsOfOneRun.{lawful, made_at, shown_at, sized}
 
 -- whose cell the ticket's is
 owner_of : (workers : List Worker) (ticket : Ticket) (seen : Sighting) → put_under workers ticket ≡ Some seen →

@@ -21,7 +21,8 @@ use Rattle.uc_core.specs.Run.{Runs, replayed_by}
 use Rattle.uc_laws.specs.Over.{ByEventsOver, EachHasATable, IsAnswerOver, OfEveryRunOver, RepliesAreAnswersOver}
 use Rattle.uc_laws.specs.CoreRun.{core_over}
 use Rattle.uc_worker.specs.declared.worker.Worker.{Worker}
-use Rattle.uc_worker.specs.AllWorkers.{DoOneCoreRun, OwnHaveTheirReplies, own_part}
+use Rattle.uc_refinement.specs.Refinement.{DoOneCoreRun, OwnHaveTheirReplies}
+use Rattle.uc_worker.specs.AllWorkers.{own_part}
 use Rattle.uc_worker.specs.TurningOver.{HaveOneHistory}
 use Rattle.uc_worker.specs.Worker.{history_of}
 

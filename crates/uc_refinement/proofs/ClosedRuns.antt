@@ -11,12 +11,13 @@ use Rattle.uc_core.specs.Core.{entry_under, log_of}
 use Rattle.uc_log.specs.declared.log.Log.{Log}
 use Rattle.uc_laws.specs.CoreRun.{RunsAsCore}
 use Rattle.uc_worker.specs.declared.worker.Worker.{Worker}
-use Rattle.uc_worker.specs.AllWorkers.{AreAllOf, AreOnOneRun, AreOver, ClosedLogsRunTheCore, DoOneCoreRun, OwnHaveTheirReplies}
+use Rattle.uc_refinement.specs.Refinement.{AreAllOf, AreOver, ClosedLogsRunTheCore, DoOneCoreRun, OwnHaveTheirReplies}
+use Rattle.uc_worker.specs.AllWorkers.{AreOnOneRun}
 use Rattle.uc_worker.specs.TurningOver.{HaveOneHistory, IsUpToDateAt}
 use Rattle.uc_worker.specs.Worker.{history_of, openings_of}
-use Rattle.uc_worker.proofs.Behind.{nothing_behind_all}
-use Rattle.uc_worker.proofs.OneCoreRun.{all_do_one_core_run, log_is}
-use Rattle.uc_worker.proofs.PartsOfOneRun.{some}
+use Rattle.uc_refinement.proofs.Behind.{nothing_behind_all}
+use Rattle.uc_refinement.proofs.OneCoreRun.{all_do_one_core_run, log_is}
+use Rattle.uc_refinement.proofs.PartsOfOneRun.{some}
 
 module _ (tables : List TableState) (log : Log) (workers : List Worker) (places : ℕ) (all : AreAllOf log workers) (run : AreOnOneRun workers)
     (same : HaveOneHistory workers) (done : All (IsUpToDateAt places) workers) (one : DoOneCoreRun log.settings tables workers) (is : one.log ≡ run.1) where

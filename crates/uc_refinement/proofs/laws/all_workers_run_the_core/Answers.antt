@@ -1,10 +1,10 @@
 -- `RunsOfTheCore`, `OneCoreRun`, `OwnReplies` and `ClosedRuns` show it.
 use Rattle.std.proofs.Common.{refl}
-use Rattle.uc_worker.proofs.ClosedRuns.{closed_logs_run_the_core}
-use Rattle.uc_worker.proofs.OneCoreRun.{all_do_one_core_run}
-use Rattle.uc_worker.proofs.OwnReplies.{own_have_their_replies}
-use Rattle.uc_worker.proofs.RunsOfTheCore.{they_run_the_core}
-use Rattle.uc_worker.proofs.all_workers.all_workers_run_the_core.Goals as goal
+use Rattle.uc_refinement.proofs.ClosedRuns.{closed_logs_run_the_core}
+use Rattle.uc_refinement.proofs.OneCoreRun.{all_do_one_core_run}
+use Rattle.uc_refinement.proofs.OwnReplies.{own_have_their_replies}
+use Rattle.uc_refinement.proofs.RunsOfTheCore.{they_run_the_core}
+use Rattle.uc_refinement.proofs.laws.all_workers_run_the_core.Goals as goal
 
 pub returns-clause-given : goal.returns-clause-given
 returns-clause-given c = they_run_the_core c.a_run_of_the_log_is_one_of_the_core.ensures

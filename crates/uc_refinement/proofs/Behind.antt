@@ -11,9 +11,10 @@ use Rattle.mc_model.specs.Lawful.{IsWorker, LeadOn, ShownEvent, Step, announces,
 use Rattle.mc_model.specs.Shown.{new_log, proposal, propose, read}
 use Rattle.uc_log.specs.declared.log.Log.{Log}
 use Rattle.uc_worker.specs.declared.worker.Worker.{Worker}
-use Rattle.uc_worker.specs.AllWorkers.{AreAllOf, AreOnOneRun, NothingIsDecidedBehindAll, own_part}
+use Rattle.uc_refinement.specs.Refinement.{AreAllOf, NothingIsDecidedBehindAll}
+use Rattle.uc_worker.specs.AllWorkers.{AreOnOneRun, own_part}
 use Rattle.uc_worker.specs.TurningOver.{IsUpToDateAt}
-use Rattle.uc_worker.proofs.PartsOfOneRun.{lawful, shown_at, sized, some}
+use Rattle.uc_refinement.proofs.PartsOfOneRun.{lawful, shown_at, sized, some}
 
 -- a worker has learned all places that are decided, or none is
 abbrev SomebodyKnowsAll : ShownState → Type 0

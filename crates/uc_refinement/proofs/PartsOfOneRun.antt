@@ -12,7 +12,8 @@ use Rattle.uc_log.specs.declared.log.Log.{Log}
 use Rattle.uc_log.specs.Passes.{size_of}
 use Rattle.uc_places.specs.Run.{HasMade}
 use Rattle.uc_worker.specs.declared.worker.Worker.{Worker}
-use Rattle.uc_worker.specs.AllWorkers.{AreAllOf, AreOnOneRun, own_part}
+use Rattle.uc_refinement.specs.Refinement.{AreAllOf}
+use Rattle.uc_worker.specs.AllWorkers.{AreOnOneRun, own_part}
 
 -- a run from the opening reaches its end
 pub reached : (size : LogSize) (run : List ShownEvent) (from log : ShownState) → IsReached size from → LeadOn size from run log → IsReached size log
@@ -46,18 +47,3 @@ module _ (log : Log) (workers : List Worker) (all : AreAllOf log workers) (one :
 
   pub lawful : LogLaw one.0 one.1
   lawful = is_lawful one.0 one.1 (reached one.0 one.2.run (new_log one.0) one.1 ([], refl) one.2.lead)
-
--- nobody is on a run of nothing
-pub nobody_on_one_run : (workers : List Worker) → length workers ≡ 0 → AreOnOneRun workers
-nobody_on_one_run [] none = (
-  record { workers = 0; places = 0 },
-  new_log (record { workers = 0; places = 0 }),
-  record {
-    run = [];
-    lead = refl;
-    sized = λ place part at. absurd (none-some part at);
-    shown = λ place part at. absurd (none-some part at);
-    own = λ place part at. absurd (none-some part at);
-  },
-)
-nobody_on_one_run (x ∷ workers) none = absurd (omega (arith, none))

@@ -1,7 +1,7 @@
 -- What the workers have replayed is no more than they have learned, so their run is one of the core.
-use Rattle.std.proofs.Common.{◌≡◌, ◌≢◌, ℕ, ◌<◌, ◌≤◌, List, [], ◌∷◌, length, length-set, Some, sym, ap, subst, ◌∙◌, arith}
+use Rattle.std.proofs.Common.{◌≡◌, ◌≢◌, ℕ, zero, suc, ◌<◌, ◌≤◌, List, [], ◌∷◌, length, length-set, map, slice_get, Some, refl, sym, ap, subst, ◌∙◌, arith}
 use Rattle.std.proofs.lemmas.List.{length-replicate}
-use Rattle.std.proofs.lemmas.Option.{same_Some, slice_get_within}
+use Rattle.std.proofs.lemmas.Option.{none-some, same_Some, slice_get_within}
 use Rattle.mc_model.specs.declared.shown.LogSize.{LogSize}
 use Rattle.mc_model.specs.declared.shown.Phase.TheVariants.{Stopped}
 use Rattle.mc_model.specs.declared.shown.ShownState.{ShownState}
@@ -10,9 +10,15 @@ use Rattle.mc_model.specs.Lawful.{IsWorker, LeadOn, ShownEvent, Step, announces,
 use Rattle.mc_model.specs.Shown.{new_log, new_worker}
 use Rattle.uc_places.specs.declared.view.Part.{Part}
 use Rattle.uc_laws.specs.CoreRun.{CanReplay, RunsAsCore}
-use Rattle.uc_worker.specs.AllWorkers.{TheyRunTheCore, own_part}
+use Rattle.uc_refinement.specs.Refinement.{TheyRunTheCore}
+use Rattle.uc_worker.specs.AllWorkers.{own_part}
 use Rattle.uc_worker.specs.Worker.{history_of, seat_of}
-use Rattle.uc_worker.proofs.AllWorkers.{mapped}
+
+-- an element of a list of results is one of them
+mapped : {X Y : Type 0} (f : X → Y) (xs : List X) (k : ℕ) (y : Y) → slice_get (map f xs) k ≡ Some y → (x : X) × (slice_get xs k ≡ Some x) × (f x ≡ y)
+mapped f [] k y at = absurd (none-some y at)
+mapped f (x ∷ xs) zero y at = (x, refl, same_Some _ _ at)
+mapped f (x ∷ xs) (suc k) y at = mapped f xs k y at
 
 -- a log keeps its workers
 step_long : (size : LogSize) (old : ShownState) (event : ShownEvent) (new : ShownState) → Step size old event new →

@@ -1,0 +1,6 @@
+mod PartsOfOneRun
+mod RunsOfTheCore
+mod OneCoreRun
+mod OwnReplies
+mod Behind
+mod ClosedRuns

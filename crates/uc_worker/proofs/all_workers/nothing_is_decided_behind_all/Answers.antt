@@ -1,6 +1,0 @@
--- `Behind` shows it.
-use Rattle.uc_worker.proofs.Behind.{nothing_behind_all}
-use Rattle.uc_worker.proofs.all_workers.nothing_is_decided_behind_all.Goals as goal
-
-pub returns : goal.returns
-returns c = nothing_behind_all
