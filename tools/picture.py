@@ -27,6 +27,7 @@ SAYS = {
     "uc_laws": "the theorem, over tables",
     "uc_log": "contents and order joined",
     "uc_worker": "submit, help, meet",
+    "uc_refinement": "its workers run the core",
     "mc_read": "bytes to requests",
     "mc_schedules": "event lists",
     "mc_write": "replies to bytes",
