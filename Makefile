@@ -1,24 +1,24 @@
 # `make run` and `make test` do all set-up on a machine that has the kit (`rt` on the PATH).
-.PHONY: help try try-stdin serve run schedule build install uninstall package test mutants golden network metrics compatibility proxy moving fuzz \
+.PHONY: help run try serve stdin schedule build install uninstall package test mutants golden network metrics compatibility proxy moving fuzz \
 	coverage-fuzz linearizability allocation-failures differential wrong-definitions core-states outliving manual trying packaging bench picture documents exposition layers definitions kit
 
 help: ## prints this list
 	@awk -F ':.*## ' '/^[a-z-]+:.*## / { printf "make %-20s %s\n", $$1, $$2 }' Makefile
+
+run: kit ## compiles mc_stdin without a proof and runs it on its first run, in a minute or two
+	@tools/try.sh mc_stdin
 
 # The first tenant's port for try; the second's is the next one.
 PORT = 11211
 try: kit ## compiles wfmc without a proof and runs it with two tenants on loopback, until it is interrupted or an hour has passed; PORT=11211
 	@tools/try.sh wfmc $(PORT)
 
-try-stdin: kit ## compiles mc_stdin without a proof and runs it on its first run
-	@tools/try.sh mc_stdin
-
 serve: kit ## proves, builds and runs wfmc with two tenants on loopback, until it is interrupted
 	@tools/prove.sh wfmc >&2
 	@printf '%s\n' "The program is crates/wfmc/out/wfmc. Two tenants, each a memcached of its own; talk to the first, for example, by: printf 'set a 0 0 1\\r\\nx\\r\\nget a\\r\\nquit\\r\\n' | nc 127.0.0.1 11211"
 	@exec crates/wfmc/out/wfmc --places 1048576 --generations 0 shop=127.0.0.1:11211,1000000,64000000 blog=127.0.0.1:11212,1000000,64000000
 
-run: kit ## proves, builds and runs mc_stdin on its first run, and prints what it prints
+stdin: kit ## proves, builds and runs mc_stdin on its first run, and prints what it prints
 	@tools/prove.sh mc_stdin >&2
 	@crates/mc_stdin/out/mc_stdin <crates/mc_stdin/stdin
 	@echo "The program is crates/mc_stdin/out/mc_stdin; feed it from a file or a pipe: printf 'get a\\\\r\\\\n' | crates/mc_stdin/out/mc_stdin"
@@ -114,7 +114,7 @@ manual: ## checks the manual pages against the programs as built, and tests inst
 	@tests/manual.sh
 	@tests/install_selftest.sh
 
-trying: kit ## tests make try and make try-stdin, in some minutes
+trying: kit ## tests make try and make run, in some minutes
 	@tests/try_selftest.sh
 
 packaging: ## tests the packages of the programs as built: installing, serving, upgrading and purging under a temporary root

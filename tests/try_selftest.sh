@@ -1,5 +1,5 @@
 #!/usr/bin/env bash
-# Tests make try and make try-stdin: a port that is taken is refused at once; wfmc serves two tenants apart, says that nothing was proved and
+# Tests make try and make run: a port that is taken is refused at once; wfmc serves two tenants apart, says that nothing was proved and
 # how long that took, and leaves neither a process nor a file when it is interrupted; and mc_stdin prints what its first run must print.
 # Some minutes, most of them compiling. The last line is 'N passed, M failed'.
 set -euo pipefail
@@ -90,9 +90,9 @@ check "the second port is free again" is_refused "$blog"
 check "no process is left" leaves_no_process
 check "no file is left" leaves_nothing
 
-TMPDIR=$folder/temporary make -s try-stdin >"$folder/output" 2>"$folder/errors" || cat "$folder/errors"
-check "make try-stdin prints what the first run must" diff crates/mc_stdin/stdout <(head -n -1 "$folder/output")
-check "and says what wasn't proved" says "$folder/output" "Nothing was proved: make run proves mc_stdin"
+TMPDIR=$folder/temporary make -s run >"$folder/output" 2>"$folder/errors" || cat "$folder/errors"
+check "make run prints what the first run must" diff crates/mc_stdin/stdout <(head -n -1 "$folder/output")
+check "and says what wasn't proved" says "$folder/output" "Nothing was proved: make stdin proves mc_stdin"
 check "no file is left by it" leaves_nothing
 
 finish

@@ -36,5 +36,5 @@ case $server in
     mc_stdin) program=crates/mc_stdin/out/mc_stdin ;;
     *) program=$server ;;
 esac
-command -v "$program" >/dev/null || { echo "$program isn't built: make serve builds wfmc, make run mc_stdin" >&2; exit 1; }
+command -v "$program" >/dev/null || { echo "$program isn't built: make serve builds wfmc, make stdin mc_stdin" >&2; exit 1; }
 exec /usr/bin/python3 -B tools/compatibility/compare.py "$@"

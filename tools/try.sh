@@ -73,7 +73,7 @@ try_stdin() {
     process=
     cat "$folder/output"
     [ "$status" -eq 0 ] || { cat "$folder/said" >&2; refuse "mc_stdin failed" 1; }
-    echo "Nothing was proved: make run proves mc_stdin, and runs it on the same input, crates/mc_stdin/stdin."
+    echo "Nothing was proved: make stdin proves mc_stdin, and runs it on the same input, crates/mc_stdin/stdin."
 }
 
 case ${1:-} in
