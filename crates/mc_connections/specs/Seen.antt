@@ -21,8 +21,8 @@ use Rattle.uc_worker.specs.declared.worker.Worker.{Worker}
 -- the connection is one of the worker's, or has ended there
 abbrev pub IsThere : Standing → Connection → Type 0
 IsThere now connection =
-    (key : ℕ) × (connection_at now.connections key ≡ Some connection)
-    ⊎ (place : ℕ) × (slice_get now.connections.ended.connections place ≡ Some connection)
+    ((key : ℕ) × (connection_at now.connections key ≡ Some connection))
+    ⊎ ((place : ℕ) × (slice_get now.connections.ended.connections place ≡ Some connection))
 
 -- What a connection was sent so far, by workers of logs that followed one another, as the last of
 -- them is now. Its first requests, whatever more may come, were taken in order, and each is

@@ -123,10 +123,10 @@ splits size s kept id view left right number mine at keeps_left shows_right fits
     subst (λ (z : ℕ × View). Fits size kept.log kept.run owner z.0 z.1) (λ i. (sym (r.0 ∙ length-set s.views id left) i, r.1 i)) fits_right)
     (at_last (set s.views id left) right there_view other there))
     (all_seated size kept.owner number (length s.views) (views ++ right ∷ [])
-    (record { view = right; there = table_lists.at_last views right (length s.views) (length-set s.views id left); shows = shows_right; })
+    (record { view = right; there = table_lists.at_last views right (length s.views) (length-set s.views id left); shows = shows_right })
     (λ other apart inside.
     let still = seat_still s.views id view left at (kept.owner other) other (keeps_left other apart) (kept.seated other inside) in
-    record { view = still.view; there = table_lists.at_longer views (right ∷ []) (kept.owner other) still.view still.there; shows = still.shows; }))
+    record { view = still.view; there = table_lists.at_longer views (right ∷ []) (kept.owner other) still.view still.there; shows = still.shows }))
 
 -- a worker's seat becomes another one
 pub leaves : (size : LogSize) (id : ℕ) (view : View) → view.kind ≡ Seated → view.joined ≡ [] → Splits (IsKept size) id view spent view
@@ -320,7 +320,7 @@ starts size words small wide first blank = record {
   };
   owner = λ _. 0;
   fits = λ id view at. by_seat id view at;
-  seated = λ number inside. record { view = spare_from size 0; there = refl; shows = omega arith; };
+  seated = λ number inside. record { view = spare_from size 0; there = refl; shows = omega arith };
 }
   where
     all_new : (workers number : ℕ) → number < workers → slice_get (replicate workers new_worker) number ≡ Some new_worker

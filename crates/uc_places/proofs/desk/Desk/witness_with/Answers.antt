@@ -29,7 +29,7 @@ join_seat-requires c = let d = c.args.self.now in let other = c.args.other.now i
       ap (λ (m : SeatState). m.1) t.4,
       omega arith,
       joins _ d.seat.id d.seat.me.0 _ _ d.mirrors.seated (ap (λ (m : SeatState). m.0.kind) t.4 ∙ other.mirrors.seated)
-      (ap (λ (m : SeatState). m.0.joined) t.4 ∙ other.alone),
+          (ap (λ (m : SeatState). m.0.joined) t.4 ∙ other.alone),
     )
 
 pub load-requires : goal.load-requires
