@@ -1,19 +1,14 @@
 -- What a connection was sent by a moment, and that what a client has seen was announced before what
 -- it asks for then.
-use Rattle.std.proofs.Common.{◌≡◌, ◌⊎◌, ℕ, ◌<◌, Bool, List, [], ◌∷◌, ◌++◌, All, Some, None, append-nil, append_assoc, ap, arith, length, length-append, slice_get, slice_index_or, subst, sym, ◌∙◌, ⊎_elim, inl, inr}
+use Rattle.std.proofs.Common.{ℕ, ◌<◌, Bool, List, [], ◌∷◌, ◌++◌, ap, arith, length, length-append, ⊎_elim}
 use Rattle.std.proofs.lemmas.Option.{slice_get_within}
 use Rattle.lists.specs.Lists.{BeginsWith}
-use Rattle.mc_conn.specs.Owed.{mark_of}
-use Rattle.mc_conn.specs.Turn.{queue_of}
-use Rattle.mc_model.specs.declared.request.Request.{Request}
 use Rattle.mc_connections.specs.InTurn.{HaveServedInTurn, InTurn}
-use Rattle.mc_connections.specs.Life.{EndsWithoutFault, IsCut, WasAnswered, sent_of}
 use Rattle.mc_connections.specs.Seen.{IsThere, SeesThenAsks, WasSent}
-use Rattle.mc_connections.specs.Serving.{connection_at}
 use Rattle.mc_connections.specs.Working.{Standing, Works, standing}
 use Rattle.mc_connections.specs.declared.connection.Connection.{Connection}
 use Rattle.mc_connections.specs.declared.connections.Connections.{Connections}
-use Rattle.mc_connections.proofs.Lives.{IsSound, Lives, PartsAddUp, ended_so_far, lives_so_far, sound_in_turn, sound_working}
+use Rattle.mc_connections.proofs.Lives.{PartsAddUp, ended_so_far, lives_so_far, sound_in_turn, sound_working}
 use Rattle.mc_connections.proofs.Workings.{works_onward}
 use Rattle.uc_worker.specs.Cited.{Sighting}
 use Rattle.uc_worker.specs.Worker.{announced_of}
