@@ -1,28 +1,50 @@
-//! Tests of the connection engine through what its crates make public: streams in pieces of any
-//! size, a queue above its bound, long blocks, faults, two tenants on one log, quotas set by an
-//! administrator, a full log, and a command that is left to the next one. They are in a
-//! crate above those that they test, since a crate with tests is proved twice.
+//! Tests of the log, its cells, its workers and the connections over them, through what their
+//! crates make public: threads that see what others put, submit and meet, workers that stop at any
+//! of their steps, answers that are recomputed, and connections whose streams are cut and fail
+//! anywhere. They are in one crate above those that they test: a crate with tests is proved twice,
+//! and each crate of tests loads its libraries anew.
 #![tactic(auto)]
 
 #[cfg(test)]
-mod acts;
+mod alone;
 #[cfg(test)]
-mod admin;
+mod answers;
 #[cfg(test)]
-mod faults;
+mod asking;
 #[cfg(test)]
-mod leaving;
+mod cells;
 #[cfg(test)]
-mod lines;
+mod clients;
 #[cfg(test)]
-mod pairs;
+mod closing;
 #[cfg(test)]
-mod pieces;
+mod connections;
 #[cfg(test)]
-mod queueing;
+mod flags;
 #[cfg(test)]
-mod runs;
+mod four;
 #[cfg(test)]
-mod tallies;
+mod full;
 #[cfg(test)]
-mod tenants;
+mod generations;
+#[cfg(test)]
+mod held;
+#[cfg(test)]
+mod helping;
+#[cfg(test)]
+mod hundred;
+#[cfg(test)]
+mod meeting;
+#[cfg(test)]
+mod parts;
+pub mod places;
+#[cfg(test)]
+mod recomputing;
+#[cfg(test)]
+mod refused;
+#[cfg(test)]
+mod standing;
+#[cfg(test)]
+mod stopped;
+#[cfg(test)]
+mod texts;
