@@ -38,10 +38,10 @@ pub record WasSent (workers : List Worker) (connection : Connection) : Type 0 wh
   pub fault : Option ConnFault
   pub sent : BeginsWith (owed ++ option_map_or words_of fault []) (sent_of connection)
 
--- A client of two connections of one worker, on one log. Of what it was sent on the one by the
--- moment `saw` a part is owed for a command that the worker announced under the first number. What
--- it then sends on the other comes later, and the worker announces the second number as it serves
--- that connection, from `asked` to `answered`.
+-- A client of two connections of one worker, on one log. By the moment `saw` it was sent a part of
+-- what is owed on the one for requests of which this is one, and the worker has announced a command
+-- that this request logs under the first number. What it then sends on the other comes later, and
+-- the worker announces the second number as it serves that connection, from `asked` to `answered`.
 pub record SeesThenAsks (until : Bool) (past : List Worker) (saw asked answered : Standing)
     (first second : ℕ) : Type 0 where
   pub reader : Connection

@@ -70,8 +70,7 @@ pub fn connections_are_answered_over_logs()
 }
 
 /// What a connection was sent by any moment between two serves, whether it is there still or has
-/// ended, is a prefix of what it is owed by the workers that have served it, for requests of which
-/// they had announced the commands by then.
+/// ended, is a prefix of what it is owed by the workers that have served it, as they are then.
 pub fn connections_are_answered_so_far()
     ensures { (who : InTurn) (connections : Connections) (until : Bool) (begun : Worker)
         (now : Standing) (connection : Connection) → HaveServedInTurn who connections →
@@ -81,8 +80,8 @@ pub fn connections_are_answered_so_far()
     mc_conn::laws::parts_add_up();
 }
 
-/// A client that has read a reply on one connection of a worker, and then sends a request on
-/// another, has its commands announced in that order.
+/// What a worker has announced by a moment, when a client was sent something on one connection, has
+/// a lower number than what it announces as it serves a connection later.
 pub fn what_a_client_has_seen_comes_first()
     ensures { (until : Bool) (past : List Worker) (saw asked answered : Standing)
         (first second : ℕ) → SeesThenAsks until past saw asked answered first second →

@@ -66,9 +66,9 @@ AnnouncesInServedOrder = (until : Bool) (early late : Standing) (first second : 
     Works until early late → first < length (announced_of early.worker) →
     length (announced_of late.worker) ≤ second → first < second
 
--- What a client saw in order stands in that order in each run of the core that the workers of a log
--- have done: it has read a reply on one connection of a worker, and what it then asks for on
--- another stands behind the command of that reply, if both stand in the log.
+-- In each run of the core that the workers of a log have done, a command that a worker had announced
+-- by a moment, when a client was sent something on one connection, stands before what the worker
+-- announces as it serves a connection later, if both stand in the log.
 abbrev pub RunsKeepSeenOrder : Type 0
 RunsKeepSeenOrder = (settings : Configuration) (tables : List TableState)
     (workers : List Worker) (one : DoOneCoreRun settings tables workers) (until : Bool)

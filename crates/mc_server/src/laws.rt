@@ -27,7 +27,8 @@ pub fn closed_logs_have_no_other_commands()
 /// Of two commands of a worker that stand in its log's run, the one that it announced first stands
 /// first, whichever connections they came by: a worker's commands are numbered as it announces
 /// them. What it announced before it served connections has lower numbers than what it announces
-/// after that. So what a client of two of its connections saw in order stands in that order.
+/// after that: so a command that it had announced when a reply was sent stands before those of
+/// later serves.
 pub fn commands_of_a_worker_keep_their_order()
     ensures run { RunsKeepOwnOrder }
     ensures served { AnnouncesInServedOrder }

@@ -67,8 +67,8 @@ EachEventIsACall = (size : LogSize) (parts : List Part) (log : ShownState) →
     (place call : ℕ) × (part : Part) × (slice_get parts place ≡ Some part)
     × (slice_get (map (event_of part.worker) part.calls) call ≡ Some event)
 
--- if some seats are on one run, each event of the run is a call of its worker's seat, whether that
--- is among them or not
+-- if some seats are on one run, each event of the run is one that a call would be, of a worker of
+-- the log, whether that worker's seat is among them or not: none is a stop
 abbrev pub NothingButCalls : Type 0
 NothingButCalls = (size : LogSize) (parts : List Part) (log : ShownState) →
     (one : AreOneRun size parts log) →

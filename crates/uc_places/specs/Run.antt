@@ -76,7 +76,7 @@ witnessed_by view = map event_in view.witnessed
 -- One run has all calls of these workers' seats, and no other events of the workers: it leads from
 -- the opening to this state of the log, in which each worker is as its seat shows it, and each
 -- worker's own events in it are exactly the calls of its seat, in order. The events of every other
--- worker of the log are calls of a seat too.
+-- worker of the log are such as calls are: none of them is a stop.
 pub record AreOneRun (size : LogSize) (parts : List Part) (log : ShownState) : Type 0 where
   pub run : List ShownEvent
   pub lead : LeadOn size (new_log size) run log

@@ -24,7 +24,7 @@ pub fn calls_lie_on_one_run()
 pub fn all_calls_are_the_run()
     // Each event of the run is a call of one of the seats, if these are all workers'.
     ensures seats { EachEventIsACall }
-    // It is a call of its worker's seat, whoever's the seats are.
+    // It is of a kind that calls are, whoever's the seats are: nobody stops.
     ensures calls { NothingButCalls }
 {}
 
