@@ -1,5 +1,6 @@
 pub mod Askings
 pub mod Counts
+pub mod EachAnswered
 pub mod Lives
 pub mod Numbers
 pub mod SeenInOrder

@@ -96,7 +96,7 @@ in_one_log worker role requests owed to parts =
     (subst (λ (owed : List ℕ). OwesInLogs role (worker ∷ []) (requests ++ []) owed) (append-nil owed) (next_log worker [] requests [] owed [] to parts no_log))
 
 -- what is owed by the first of the logs, where it is the last one too
-abbrev OwesAlone : Role → List Worker → List Request → List ℕ → Type 0
+abbrev pub OwesAlone : Role → List Worker → List Request → List ℕ → Type 0
 OwesAlone role [] requests owed = (requests ≡ []) × (owed ≡ [])
 OwesAlone role (worker ∷ []) requests owed = (to : Mark) × OwesInParts worker role requests owed to
 OwesAlone role (worker ∷ (next ∷ workers)) requests owed = Unit {0}
@@ -110,7 +110,7 @@ behind_none worker [] role requests more bytes others to parts none = (
 )
 behind_none worker (next ∷ workers) role requests more bytes others to parts alone = tt
 
-owes_alone : (role : Role) (workers : List Worker) (requests : List Request) (owed : List ℕ) → OwesInLogs role workers requests owed → OwesAlone role workers requests owed
+pub owes_alone : (role : Role) (workers : List Worker) (requests : List Request) (owed : List ℕ) → OwesInLogs role workers requests owed → OwesAlone role workers requests owed
 owes_alone role _ _ _ no_log = (refl, refl)
 owes_alone role _ _ _ (next_log worker workers requests more bytes others to parts owes) =
     behind_none worker workers role requests more bytes others to parts (owes_alone role workers more others owes)
@@ -119,7 +119,7 @@ pub of_one_log : (worker : Worker) (role : Role) (requests : List Request) (owed
 of_one_log worker role requests owed owes = owes_alone role (worker ∷ []) requests owed owes
 
 -- what earlier logs owe, and then this one
-logs_then : (role : Role) (past : List Worker) (earlier : List Request) (earlier_owed : List ℕ) → OwesInLogs role past earlier earlier_owed →
+pub logs_then : (role : Role) (past : List Worker) (earlier : List Request) (earlier_owed : List ℕ) → OwesInLogs role past earlier earlier_owed →
     (worker : Worker) (requests : List Request) (owed : List ℕ) (to : Mark) → OwesInParts worker role requests owed to →
     OwesInLogs role (past ++ worker ∷ []) (earlier ++ requests) (earlier_owed ++ owed)
 logs_then role _ _ _ no_log worker requests owed to parts = in_one_log worker role requests owed to parts

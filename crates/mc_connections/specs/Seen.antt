@@ -2,20 +2,25 @@
 -- (TOPLAS 1990): one operation precedes another if it has answered before the other is invoked.
 -- Connections are those of memcached's doc/protocol.txt, "Protocol"; that one worker serves several
 -- is this project's profile.
+use mathlib.Core.Logic.{inl, inr}
 use Rattle.std.specs.Option.{option_map_or}
-use Rattle.std.specs.Prelude.{◌≡◌, ◌⊎◌, ℕ, ◌<◌, ◌≤◌, Bool, List, [], ◌∷◌, ◌++◌, length, Option, Some, slice_get}
+use Rattle.std.specs.Prelude.{◌≡◌, ◌⊎◌, ℕ, ◌+◌, ◌≤◌, Bool, true, List, [], ◌∷◌, ◌++◌, length, Option, Some, slice_get}
 use Rattle.lists.specs.Lists.{BeginsWith}
 use Rattle.mc_conn.specs.Cited.{ReadsAs}
 use Rattle.mc_conn.specs.ConnFault.{ConnFault}
 use Rattle.mc_conn.specs.Held.{lines_of}
+use Rattle.mc_conn.specs.Owed.{IsPlaced, Logs, Mark, Owes, answered, demand_of, is_logged, mark_of}
+use Rattle.mc_conn.specs.Turn.{Scene}
+use Rattle.mc_conn.specs.declared.conn.Role.{Role}
 use Rattle.mc_conn.specs.declared.conn.State.{State}
+use Rattle.mc_model.specs.declared.command.Command.{Command}
+use Rattle.mc_model.specs.declared.reply.Reply.{Reply}
 use Rattle.mc_model.specs.declared.request.Request.{Request}
-use Rattle.mc_connections.specs.Asking.{IsLogged}
 use Rattle.mc_connections.specs.Life.{OwesInLogs, came_of, sent_of, words_of}
-use Rattle.mc_connections.specs.Serving.{connection_at}
-use Rattle.mc_connections.specs.Working.{ServesAt, Standing, Works}
+use Rattle.mc_connections.specs.Serving.{IsServedLater, TakesOrStops, connection_at}
+use Rattle.mc_connections.specs.Working.{Standing, Works}
 use Rattle.mc_connections.specs.declared.connection.Connection.{Connection}
-use Rattle.uc_worker.specs.Worker.{announced_of}
+use Rattle.uc_worker.specs.Worker.{IsFull}
 use Rattle.uc_worker.specs.declared.worker.Worker.{Worker}
 
 -- the connection is one of the worker's, or has ended there
@@ -38,22 +43,98 @@ pub record WasSent (workers : List Worker) (connection : Connection) : Type 0 wh
   pub fault : Option ConnFault
   pub sent : BeginsWith (owed ++ option_map_or words_of fault []) (sent_of connection)
 
--- A client of two connections of one worker, on one log. By the moment `saw` it was sent a part of
--- what is owed on the one for requests of which this is one, and the worker has announced a command
--- that this request logs under the first number. What it then sends on the other comes later, and
--- the worker announces the second number as it serves that connection, from `asked` to `answered`.
-pub record SeesThenAsks (until : Bool) (past : List Worker) (saw asked answered : Standing)
-    (first second : ℕ) : Type 0 where
+-- Of requests that a worker took from a mark on, the one of this index logs a command, which the
+-- worker has replayed. The mark at which it was due is the one to which it owes for the requests
+-- before it, and what it owes next is the reply.
+pub record IsAnsweredAmong (worker : Worker) (role : Role) (mark : Mark) (requests : List Request)
+    (owed : List ℕ) (index : ℕ) : Type 0 where
+  pub earlier : List Request
+  pub request : Request
+  pub taken : BeginsWith requests (earlier ++ request ∷ [])
+  pub so_many : length earlier ≡ index
+  pub before : List ℕ
+  pub due : Mark
+  pub owes : Owes worker role mark earlier before due
+  pub tenant : ℕ
+  pub command : Command
+  pub quiet : Bool
+  pub logs : demand_of role request ≡ Logs tenant command quiet
+  pub reply : Reply
+  pub to : Mark
+  pub placed : IsPlaced worker tenant due command reply to
+  pub next : BeginsWith owed (before ++ answered quiet reply)
+
+-- the number under which its command was announced, and the place at which it stands in the log
+abbrev pub announced_number : {worker : Worker} {role : Role} {mark : Mark}
+    {requests : List Request} {owed : List ℕ} {index : ℕ} →
+    IsAnsweredAmong worker role mark requests owed index → ℕ
+announced_number answer = answer.due.number
+
+abbrev pub history_place : {worker : Worker} {role : Role} {mark : Mark}
+    {requests : List Request} {owed : List ℕ} {index : ℕ} →
+    IsAnsweredAmong worker role mark requests owed index → ℕ
+history_place answer = answer.placed.place
+
+-- Of requests that were taken over logs that followed one another, the one of this index was
+-- answered on the last log: after what was owed for earlier ones, its worker took some requests of
+-- which it is one.
+pub record IsAnsweredOnLast (past : List Worker) (worker : Worker) (role : Role)
+    (requests : List Request) (owed : List ℕ) (index : ℕ) : Type 0 where
+  pub earlier : List Request
+  pub before : List ℕ
+  pub owes : OwesInLogs role (past ++ worker ∷ []) earlier before
+  pub mark : Mark
+  pub part : List Request
+  pub bytes : List ℕ
+  pub at : ℕ
+  pub answer : IsAnsweredAmong worker role mark part bytes at
+  pub so_many : index ≡ length earlier + at
+  pub taken : BeginsWith requests (earlier ++ part)
+  pub next : BeginsWith owed (before ++ bytes)
+
+-- all that is owed up to the end of its reply
+abbrev pub owed_through : {past : List Worker} {worker : Worker} {role : Role}
+    {requests : List Request} {owed : List ℕ} {index : ℕ} →
+    IsAnsweredOnLast past worker role requests owed index → List ℕ
+owed_through seen =
+    seen.before ++ (seen.answer.before ++ answered seen.answer.quiet seen.answer.reply)
+
+-- each of these requests from an index on that is to be logged was answered on the last log, unless
+-- that log is full
+abbrev pub AreAnsweredFrom : List Worker → Worker → Role → List Request → List ℕ → ℕ → Type 0
+AreAnsweredFrom past worker role requests owed from = (index : ℕ) (request : Request) →
+    from ≤ index → slice_get requests index ≡ Some request →
+    is_logged (demand_of role request) ≡ true →
+    IsAnsweredOnLast past worker role requests owed index ⊎ IsFull worker
+
+-- the requests that were taken as a connection was served, and what is owed for them
+abbrev pub requests_taken : {before after : Scene} → TakesOrStops before after → List Request
+requests_taken (inl takes) = takes.taken.requests
+requests_taken (inr (fault, stops)) = stops.breaks.taken.requests
+
+abbrev pub owed_for_them : {before after : Scene} → TakesOrStops before after → List ℕ
+owed_for_them (inl takes) = takes.taken.owed
+owed_for_them (inr (fault, stops)) = stops.breaks.taken.owed
+
+-- A client of two connections of one worker, on one log. By the moment `saw` it was sent the reply
+-- to a request on the one, with all that is owed before it. What it then sends on the other is
+-- taken in a later serve, from `asked` to `answered`, and a request taken there is answered too.
+pub record SeesThenAsks (until : Bool) (past : List Worker)
+    (saw asked answered : Standing) : Type 0 where
   pub reader : Connection
   pub there : IsThere saw reader
   pub sent : WasSent (past ++ saw.worker ∷ []) reader
-  pub place : ℕ
-  pub request : Request
-  pub replied : slice_get sent.requests place ≡ Some request
-  pub logged : IsLogged saw.worker reader.conn.role request first
+  pub index : ℕ
+  pub seen : IsAnsweredOnLast past saw.worker reader.conn.role sent.requests sent.owed index
+  pub whole : BeginsWith (sent_of reader) (owed_through seen)
   pub later : Works until saw asked
   pub key : ℕ
+  pub old : Connection
+  pub was : connection_at asked.connections key ≡ Some old
   pub state : State
-  pub serves : ServesAt until key state asked answered
-  pub since : length (announced_of asked.worker) ≤ second
-  pub by_then : second < length (announced_of answered.worker)
+  pub new : Connection
+  pub is : IsThere answered new
+  pub turns : IsServedLater until asked.worker answered.worker old new state
+  pub which : ℕ
+  pub asks : IsAnsweredAmong answered.worker old.conn.role (mark_of asked.worker)
+      (requests_taken turns.served) (owed_for_them turns.served) which

@@ -1,13 +1,14 @@
 //! What the definitions say of connections, log after log, and the numbers of this profile. A law
 //! is the contract of a function with an empty body, or with calls of the laws from which it
 //! follows.
-ghost use Rattle.std.specs.Prelude.{◌≡◌, ◌↔◌, ◌<◌, [], ◌∷◌, ◌++◌, All, Bool, ℕ, List, length};
-ghost use Rattle.mc_conn.specs.Owed.{Mark};
+ghost use Rattle.std.specs.Prelude.{◌≡◌, ◌↔◌, ◌⊎◌, ◌<◌, [], ◌∷◌, ◌++◌, All, Bool, Some, true, ℕ, List, length, slice_get};
+ghost use Rattle.lists.specs.Lists.{BeginsWith};
+ghost use Rattle.mc_conn.specs.Owed.{Mark, Owes, demand_of, is_logged};
 ghost use Rattle.mc_conn.specs.declared.conn.Role.{Role};
 ghost use Rattle.mc_connections.specs.Asking.{HaveBeenAsked};
 ghost use Rattle.mc_connections.specs.InTurn.{HaveServedInTurn, InTurn};
 ghost use Rattle.mc_connections.specs.Life.{OwesInLogs, OwesInParts, WasAnswered};
-ghost use Rattle.mc_connections.specs.Seen.{IsThere, SeesThenAsks, WasSent};
+ghost use Rattle.mc_connections.specs.Seen.{AreAnsweredFrom, IsAnsweredAmong, IsThere, SeesThenAsks, WasSent, announced_number, history_place};
 ghost use Rattle.mc_connections.specs.Serving.{HasComeTo};
 ghost use Rattle.mc_connections.specs.Working.{IsEmpty, KeepsPlaces, Standing, Works, standing};
 ghost use Rattle.mc_connections.specs.declared.arrival.Admission.{Admission};
@@ -18,7 +19,7 @@ ghost use Rattle.mc_connections.specs.declared.connections.Connections.{Connecti
 ghost use Rattle.mc_connections.specs.declared.places.TheConstants.{MOST_ADMINS, MOST_CONNECTIONS};
 ghost use Rattle.mc_model.specs.declared.request.Request.{Request};
 ghost use Rattle.uc_worker.specs.Going.{CatchesUp, Continues};
-ghost use Rattle.uc_worker.specs.Worker.{tenants_of};
+ghost use Rattle.uc_worker.specs.Worker.{IsFull, tenants_of};
 ghost use Rattle.uc_worker.specs.declared.worker.Worker.{Worker};
 
 /// Over one log, a connection is owed exactly what the log's worker owes it in parts.
@@ -80,12 +81,32 @@ pub fn connections_are_answered_so_far()
     mc_conn::laws::parts_add_up();
 }
 
-/// What a worker has announced by a moment, when a client was sent something on one connection, has
-/// a lower number than what it announces as it serves a connection later.
+/// Each request that is to be logged was answered, unless the log is full: one that a worker took,
+/// and so each that the worker of the last of several logs took.
+pub fn logged_requests_are_answered()
+    ensures among { (worker : Worker) (role : Role) (from to : Mark) (requests : List Request)
+        (owed : List ℕ) → Owes worker role from requests owed to → (index : ℕ)
+        (request : Request) → slice_get requests index ≡ Some request →
+        is_logged (demand_of role request) ≡ true →
+        IsAnsweredAmong worker role from requests owed index ⊎ IsFull worker }
+    ensures on_last { (past : List Worker) (worker : Worker) (role : Role)
+        (requests : List Request) (owed : List ℕ) →
+        OwesInLogs role (past ++ worker ∷ []) requests owed → (earlier : List Request)
+        × (before : List ℕ) × OwesInLogs role past earlier before × BeginsWith requests earlier
+        × AreAnsweredFrom past worker role requests owed (length earlier) }
+{}
+
+/// If a client was sent the reply to a command on one connection, and the same worker answers
+/// another command that it takes on a connection later, then the first was announced under a lower
+/// number, and stands at an earlier place of the log.
 pub fn what_a_client_has_seen_comes_first()
-    ensures { (until : Bool) (past : List Worker) (saw asked answered : Standing)
-        (first second : ℕ) → SeesThenAsks until past saw asked answered first second →
-        first < second }
+    ensures order { (until : Bool) (past : List Worker) (saw asked answered : Standing)
+        (sees : SeesThenAsks until past saw asked answered) →
+        (announced_number sees.seen.answer < announced_number sees.asks)
+        × (history_place sees.seen.answer < history_place sees.asks) }
+    // It is the same worker, later on.
+    ensures onward { (until : Bool) (past : List Worker) (saw asked answered : Standing) →
+        SeesThenAsks until past saw asked answered → Continues saw.worker answered.worker }
 {}
 
 /// Once no connection is left, each command that a worker has announced is one request of a

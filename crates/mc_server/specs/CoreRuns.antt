@@ -3,7 +3,7 @@
 -- an end; that it is cut into logs is this project's profile.
 use Rattle.std.specs.List.{AllZip}
 use Rattle.std.specs.Prelude.{◌≡◌, ◌<◌, ◌≤◌, ℕ, Bool, List, Some, length, slice_get}
-use Rattle.mc_connections.specs.Seen.{SeesThenAsks}
+use Rattle.mc_connections.specs.Seen.{SeesThenAsks, announced_number, history_place}
 use Rattle.mc_connections.specs.Working.{Standing, Works}
 use Rattle.mc_model.specs.declared.id.Ticket.{Ticket}
 use Rattle.mc_model.specs.Legal.{ticket_of}
@@ -66,14 +66,21 @@ AnnouncesInServedOrder = (until : Bool) (early late : Standing) (first second : 
     Works until early late → first < length (announced_of early.worker) →
     length (announced_of late.worker) ≤ second → first < second
 
--- In each run of the core that the workers of a log have done, a command that a worker had announced
--- by a moment, when a client was sent something on one connection, stands before what the worker
--- announces as it serves a connection later, if both stand in the log.
+-- the worker's command of this number stands at this place of the log
+abbrev pub StandsAt : List Ticket → Worker → ℕ → ℕ → Type 0
+StandsAt log worker place number =
+    slice_get log place ≡ Some (ticket_of (seat_of worker).worker number)
+
+-- In each run of the core that the workers of a log have done, a command whose reply a client was
+-- sent on one connection stands before one that the same worker then took on another and answered:
+-- both stand where that worker, as it is in the run, has replayed them.
 abbrev pub RunsKeepSeenOrder : Type 0
 RunsKeepSeenOrder = (settings : Configuration) (tables : List TableState)
     (workers : List Worker) (one : DoOneCoreRun settings tables workers) (until : Bool)
-    (past : List Worker) (saw asked answered : Standing) (first second place later : ℕ) →
-    SeesThenAsks until past saw asked answered first second →
-    slice_get one.log.decided place ≡ Some (ticket_of (seat_of saw.worker).worker first) →
-    slice_get one.log.decided later ≡ Some (ticket_of (seat_of saw.worker).worker second) →
-    place < later
+    (past : List Worker) (saw asked answered : Standing)
+    (sees : SeesThenAsks until past saw asked answered) (number : ℕ) (worker : Worker) →
+    slice_get workers number ≡ Some worker → Continues answered.worker worker →
+    StandsAt one.log.decided worker (history_place sees.seen.answer)
+    (announced_number sees.seen.answer)
+    × StandsAt one.log.decided worker (history_place sees.asks) (announced_number sees.asks)
+    × (history_place sees.seen.answer < history_place sees.asks)

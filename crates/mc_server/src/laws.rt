@@ -27,8 +27,9 @@ pub fn closed_logs_have_no_other_commands()
 /// Of two commands of a worker that stand in its log's run, the one that it announced first stands
 /// first, whichever connections they came by: a worker's commands are numbered as it announces
 /// them. What it announced before it served connections has lower numbers than what it announces
-/// after that: so a command that it had announced when a reply was sent stands before those of
-/// later serves.
+/// after that. So what a client of two of its connections sees in order stands in that order: if it
+/// was sent the reply to a command on the one, and a later serve takes a command on the other and
+/// answers it, both stand in the run, and the first at the earlier place.
 pub fn commands_of_a_worker_keep_their_order()
     ensures run { RunsKeepOwnOrder }
     ensures served { AnnouncesInServedOrder }
@@ -37,4 +38,5 @@ pub fn commands_of_a_worker_keep_their_order()
     uc_laws::over::laws_over_tables();
     mc_connections::laws::work_adds_up();
     mc_connections::laws::what_a_client_has_seen_comes_first();
+    uc_worker::laws::workers_go_on();
 }
