@@ -8,11 +8,13 @@ measured at memcached, where it takes the quiet client's item too.
 
 Usage: bench/neighbours.py [BINARY [CASE...]] [--seconds N] [--workers W] [--no-memcached] [--option WORD]; the binary is
 crates/wfmc/out/wfmc and all cases are measured where none is named, for N (5) seconds each. The logs follow one another, each of 1,048,576
-places or 256 MiB. Takes some minutes and up to 4 GB of memory; needs gcc, and memcached unless told otherwise.
+places or 256 MiB. Of three or more processors the quiet client has one, the noisy ones have one, and the server has the others. Takes some
+minutes and up to 4 GB of memory; needs gcc, and memcached unless told otherwise.
 """
 
 import argparse
 import contextlib
+import os
 import pathlib
 import subprocess
 import sys
@@ -32,6 +34,7 @@ MEBIBYTE = 1 << 20
 MOST_REQUESTS = 100_000_000
 QUIET_REQUESTS = 2_000_000
 FLUSHED = 400_000
+PROCESSORS = sorted(os.sched_getaffinity(0))
 # As many names of one letter as a line of 65,536 bytes has.
 NAMES = 32_766
 
@@ -131,6 +134,14 @@ CASES = {
 }
 
 
+def keep_to(processors, pid=0):
+    """Keeps the threads of a process, this one or another, and what they start, to these processors, where there are enough to keep the server,
+    the noisy tenant's clients and the quiet one's apart: a client that wakes where another one waits would have it wait for itself."""
+    if len(PROCESSORS) > 2:
+        for task in os.listdir(f"/proc/{pid or os.getpid()}/task"):
+            os.sched_setaffinity(int(task), processors)
+
+
 def wfmc(program, workers, options):
     """A server with the tenants' quotas, and the ports of the quiet and of the noisy one."""
     server = Server(program, ("--workers", str(workers), *ENDLESS, *options), {"quiet": LARGE, "noisy": LARGE})
@@ -147,11 +158,15 @@ def measure(load, seconds, started, noise):
     """The quiet tenant's times while the noisy one does this: name, value and unit."""
     server, quiet, noisy = started
     with server:
+        keep_to(PROCESSORS[:-2], server.pid)
+        keep_to(PROCESSORS[-2:-1])
         if noise:
             noise.start(load, noisy, seconds)
             time.sleep(1)
         words = [load, "-k", "1", "-l", "1", "-s", str(seconds), str(quiet), "1", "1", str(QUIET_REQUESTS)]
-        printed = subprocess.run(words, capture_output=True, text=True, check=True).stdout
+        with subprocess.Popen(words, stdout=subprocess.PIPE, text=True) as client:
+            keep_to(PROCESSORS[-1:], client.pid)
+            printed, _ = client.communicate()
         done = [("the noisy one's requests or rounds", noise.stop(), "1/s")] if noise else []
     return [*((name, value, unit) for name, value, unit in figures_of(printed) if "times to a reply" in name), *done]
 

@@ -4,10 +4,10 @@ use mc_conn::PULL_BYTES;
 
 /// How many requests a read is to bring at most, so that a turn is short where they are small; once
 /// as many were answered there is no further turn.
-pub(crate) const REQUESTS_OF_A_READ: u64 = 64;
+pub(crate) const REQUESTS_OF_A_READ: u64 = 32;
 
 /// How many bytes a read takes at most where a connection's requests are small, or not known yet.
-const LEAST_READ: usize = 2_048;
+const LEAST_READ: usize = 1_024;
 
 /// If the mean is above this, the requests that have a block don't come whole by one read.
 const LONG_REQUEST: u64 = 8_192;
