@@ -139,7 +139,8 @@ def keep_to(processors, pid=0):
     the noisy tenant's clients and the quiet one's apart: a client that wakes where another one waits would have it wait for itself."""
     if len(PROCESSORS) > 2:
         for task in os.listdir(f"/proc/{pid or os.getpid()}/task"):
-            os.sched_setaffinity(int(task), processors)
+            with contextlib.suppress(ProcessLookupError):
+                os.sched_setaffinity(int(task), processors)
 
 
 def wfmc(program, workers, options):
