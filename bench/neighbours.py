@@ -136,7 +136,7 @@ CASES = {
 
 def keep_to(processors, pid=0):
     """Keeps the threads of a process, this one or another, and what they start, to these processors, where there are enough to keep the server,
-    the noisy tenant's clients and the quiet one's apart: a client that wakes where another one waits would have it wait for itself."""
+    the noisy tenant's clients and the quiet one's apart. Otherwise one client may wait for another's processor, which isn't the server's doing."""
     if len(PROCESSORS) > 2:
         for task in os.listdir(f"/proc/{pid or os.getpid()}/task"):
             with contextlib.suppress(ProcessLookupError):
@@ -168,6 +168,8 @@ def measure(load, seconds, started, noise):
         with subprocess.Popen(words, stdout=subprocess.PIPE, text=True) as client:
             keep_to(PROCESSORS[-1:], client.pid)
             printed, _ = client.communicate()
+        if client.returncode:
+            raise subprocess.CalledProcessError(client.returncode, words)
         done = [("the noisy one's requests or rounds", noise.stop(), "1/s")] if noise else []
     return [*((name, value, unit) for name, value, unit in figures_of(printed) if "times to a reply" in name), *done]
 
