@@ -17,7 +17,6 @@ use Rattle.mc_connections.specs.declared.connection.Connection.{Connection}
 use Rattle.mc_connections.specs.declared.connections.Connections.{Connections}
 use Rattle.mc_connections.proofs.Lives.{PartsAddUp, ended_so_far, lives_so_far, sound_in_turn, sound_working}
 use Rattle.mc_connections.proofs.Servings.{served_onward}
-use Rattle.mc_connections.proofs.Workings.{works_onward}
 use Rattle.uc_worker.specs.Going.{Continues}
 use Rattle.uc_worker.specs.Worker.{announced_of, history_of}
 use Rattle.uc_worker.specs.contracts.laws.WorkerGoesOn.TheImpl.{continues_through-value}
@@ -62,14 +61,13 @@ owes_onward worker role from to (request ∷ requests) bytes owes =
 module _ (until : Bool) (past : List Worker) (saw asked answered : Standing) (sees : SeesThenAsks until past saw asked answered) where
   pub sees_onward : Continues saw.worker answered.worker
   sees_onward =
-      continues_through-value.it saw.worker asked.worker answered.worker (works_onward saw asked sees.later)
+      continues_through-value.it saw.worker asked.worker answered.worker sees.later
       (served_onward (scene_of sees.old asked.worker) (scene_of sees.new answered.worker) sees.turns.served)
 
   pub seen_first : (announced_number sees.seen.answer < announced_number sees.asks) × (history_place sees.seen.answer < history_place sees.asks)
   seen_first =
       let seen = sees.seen.answer in
-      let on = works_onward saw asked sees.later in
       let due = owes_onward answered.worker sees.old.conn.role (mark_of asked.worker) sees.asks.due sees.asks.earlier sees.asks.before sees.asks.owes in (
-        omega (arith, due.0, slice_get_within (announced_of saw.worker) seen.due.number _ seen.placed.announced, begins_longer _ _ on.announced),
-        omega (arith, due.1, sees.asks.placed.not_before, slice_get_within (history_of saw.worker) seen.placed.place _ seen.placed.stands, begins_longer _ _ on.history),
+        omega (arith, due.0, slice_get_within (announced_of saw.worker) seen.due.number _ seen.placed.announced, begins_longer _ _ sees.later.announced),
+        omega (arith, due.1, sees.asks.placed.not_before, slice_get_within (history_of saw.worker) seen.placed.place _ seen.placed.stands, begins_longer _ _ sees.later.history),
       )

@@ -18,8 +18,9 @@ use Rattle.mc_model.specs.declared.reply.Reply.{Reply}
 use Rattle.mc_model.specs.declared.request.Request.{Request}
 use Rattle.mc_connections.specs.Life.{OwesInLogs, came_of, sent_of, words_of}
 use Rattle.mc_connections.specs.Serving.{IsServedLater, TakesOrStops, connection_at}
-use Rattle.mc_connections.specs.Working.{Standing, Works}
+use Rattle.mc_connections.specs.Working.{Standing}
 use Rattle.mc_connections.specs.declared.connection.Connection.{Connection}
+use Rattle.uc_worker.specs.Going.{Continues}
 use Rattle.uc_worker.specs.Worker.{IsFull}
 use Rattle.uc_worker.specs.declared.worker.Worker.{Worker}
 
@@ -119,6 +120,7 @@ owed_for_them (inr (fault, stops)) = stops.breaks.taken.owed
 -- A client of two connections of one worker, on one log. By the moment `saw` it was sent the reply
 -- to a request on the one, with all that is owed before it. What it then sends on the other is
 -- taken in a later serve, from `asked` to `answered`, and a request taken there is answered too.
+-- The worker may have gone on in another thread in between.
 pub record SeesThenAsks (until : Bool) (past : List Worker)
     (saw asked answered : Standing) : Type 0 where
   pub reader : Connection
@@ -127,7 +129,7 @@ pub record SeesThenAsks (until : Bool) (past : List Worker)
   pub index : ℕ
   pub seen : IsAnsweredOnLast past saw.worker reader.conn.role sent.requests sent.owed index
   pub whole : BeginsWith (sent_of reader) (owed_through seen)
-  pub later : Works until saw asked
+  pub later : Continues saw.worker asked.worker
   pub key : ℕ
   pub old : Connection
   pub was : connection_at asked.connections key ≡ Some old
