@@ -8,6 +8,10 @@ pub mod Sending
 pub mod Exptimes
 pub mod Lawful
 pub mod Setting
+pub mod Awaiting
+mod Feeding
+mod Parts
+mod Pullings
 mod Rows
 pub mod Readings
 pub mod Texts

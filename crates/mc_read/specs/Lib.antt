@@ -4,6 +4,7 @@ pub mod Administering
 pub mod Words
 pub mod Text
 pub mod Reading
+pub mod Pulling
 pub mod First
 pub mod State
 pub mod Sending

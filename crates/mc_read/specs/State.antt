@@ -1,25 +1,30 @@
 -- What a reader's fields mean, and what is true of them; this project's profile. What bytes read as
 -- is said in `Reading`.
-use Rattle.std.specs.Prelude.{◌≡◌, ℕ, ◌+◌, ◌-◌, ◌^◌, ◌<◌, ◌≤◌, min, ◌⊎◌, Bool, if◌then◌else◌, List, [], length, take, drop, Option, Some, None}
+use Rattle.std.specs.Prelude.{◌≡◌, ℕ, ◌+◌, ◌-◌, ◌^◌, ◌<◌, ◌≤◌, min, ◌⊎◌, Bool, if◌then◌else◌, List, [], ◌∷◌, ◌++◌, length, take, drop, Option, Some, None}
 use Rattle.mc_model.specs.declared.item.Data.{Data}
 use Rattle.mc_model.specs.declared.item.TheConstants.{DATA_BYTES}
 use Rattle.mc_model.specs.declared.reply.WireNo.{WireNo}
 use Rattle.mc_model.specs.declared.request.Request.{Request}
 use Rattle.mc_read.specs.declared.line.Asked.TheVariants.{RefusedBlock, StoredBlock}
 use Rattle.mc_read.specs.declared.line.TheConstants.{LINE_BYTES}
+use Rattle.mc_read.specs.declared.read_line.ReadLine.{ReadLine}
 use Rattle.mc_read.specs.declared.reader.State.{State}
 use Rattle.mc_read.specs.declared.reader.State.TheVariants as state
 use Rattle.mc_read.specs.declared.reader.Sought.{Sought}
 use Rattle.mc_read.specs.declared.reader.Sought.TheVariants as sought
 use Rattle.mc_read.specs.First.{line_length}
 use Rattle.mc_read.specs.Line.{refused}
-use Rattle.mc_read.specs.Text.{Lines, ends_well}
-use Rattle.mc_read.specs.Reading.{Ended, HasNone, Held, IsNext, Kept, ReadAlike, Swallowing, ends_stream}
+use Rattle.mc_read.specs.Text.{IsUnbroken, Lines, ends_well}
+use Rattle.mc_read.specs.Reading.{Ended, HasNone, Held, IsFed, IsNext, Kept, ReadAlike, Swallowing, ends_stream}
+
+-- a line that was read, what has arrived of its block, and what stands behind that
+abbrev pub awaited : ReadLine → List ℕ → List ℕ → List ℕ
+awaited line body bytes = line.text ++ 10 ∷ (body ++ bytes)
 
 -- what is held in this state with these bytes
 abbrev pub held_in : State → List ℕ → Held
 held_in (state.AwaitsLine searched) bytes = Kept bytes
-held_in (state.AwaitsBlock line header) bytes = Kept bytes
+held_in (state.AwaitsBlock line header body) bytes = Kept (awaited line body.items bytes)
 held_in (state.SwallowsBlock refusal quiet left) bytes =
     Swallowing (refused refusal quiet) left bytes
 held_in state.Ended bytes = Ended
@@ -38,9 +43,10 @@ pub record IsSearched (searched : ℕ) (bytes : List ℕ) : Type 0 where
 -- what a state says of the bytes
 abbrev pub IsStateOf : Lines → State → List ℕ → Type 0
 IsStateOf lines (state.AwaitsLine searched) bytes = IsSearched searched bytes
-IsStateOf lines (state.AwaitsBlock line header) bytes =
-    IsLineAt bytes line × (lines (take line bytes) ≡ StoredBlock header)
-    × (header.length ≤ DATA_BYTES)
+IsStateOf lines (state.AwaitsBlock line header body) bytes =
+    IsUnbroken line.text × (length line.text ≤ LINE_BYTES)
+    × (lines line.text ≡ StoredBlock header) × (header.length ≤ DATA_BYTES)
+    × (length body.items ≤ header.length + 2)
 IsStateOf lines (state.SwallowsBlock refusal quiet left) bytes = 0 < left → bytes ≡ []
 IsStateOf lines state.Ended bytes = bytes ≡ []
 
@@ -91,6 +97,14 @@ IsTaken bytes line size (Some given) left = let body = take (size + 2) (drop (li
     (line + 1 + (size + 2) ≤ length bytes) × (given.0 ≡ take size body)
     × (given.1 ≡ ends_well (drop size body)) × (left ≡ drop (line + 1 + (size + 2)) bytes)
 
+-- A block and the two bytes after it stand at the front of the bytes, and the block is returned with
+-- whether these end it well; or a part of it is still to come, and the bytes stay.
+abbrev pub IsFinished : ℕ → List ℕ → Option (Data × Bool) → List ℕ → Type 0
+IsFinished size bytes None left = (length bytes < size + 2) × (left ≡ bytes)
+IsFinished size bytes (Some given) left = let body = take (size + 2) bytes in
+    (size + 2 ≤ length bytes) × (given.0 ≡ take size body)
+    × (given.1 ≡ ends_well (drop size body)) × (left ≡ drop (size + 2) bytes)
+
 -- the state in which a reader goes on after a request
 abbrev pub state_past : Request → State
 state_past request = if ends_stream request then state.Ended else state.AwaitsLine 0
@@ -108,7 +122,7 @@ line_reach bytes = min (min (line_length bytes + 1) (length bytes)) (LINE_BYTES 
 -- in how many bytes at the front the end of the first line was searched
 abbrev pub searched_in : State → ℕ
 searched_in (state.AwaitsLine searched) = searched
-searched_in (state.AwaitsBlock line header) = line + 1
+searched_in (state.AwaitsBlock line header body) = length line.text + 1
 searched_in (state.SwallowsBlock refusal quiet left) = 0
 searched_in state.Ended = 0
 
@@ -126,9 +140,17 @@ IsAllSearched (Some request) held searched = searched ≡ 0
 -- how many bytes are held in which no line end was searched yet
 abbrev pub ahead_in : State → List ℕ → ℕ
 ahead_in (state.AwaitsLine searched) bytes = length bytes - searched
-ahead_in (state.AwaitsBlock line header) bytes = length bytes - (line + 1)
+ahead_in (state.AwaitsBlock line header body) bytes = length body.items + length bytes
 ahead_in (state.SwallowsBlock refusal quiet left) bytes = length bytes
 ahead_in state.Ended bytes = 0
+
+-- A state with bytes takes a piece: what is held was fed it, and no more is ahead than it and what
+-- was.
+pub record Feeds (lines : Lines) (s : State) (bytes piece : List ℕ) (next : State)
+    (left : List ℕ) : Type 0 where
+  pub readings : IsFed lines (held_in s bytes) piece (held_in next left)
+  pub stands : IsStateOf lines next left
+  pub ahead : ahead_in next left ≤ ahead_in s bytes + length piece
 
 -- What is true of a reader's fields. Of the bytes that it was fed, a line end was searched in none
 -- of those that are ahead, unless the count of them has stopped.

@@ -1,14 +1,20 @@
 //! A queue of bytes: they are added at the end and taken from the front.
-ghost use Rattle.std.specs.Prelude.{◌≡◌, ℕ, ◌+◌, ◌≤◌, List, [], ◌++◌, drop, length, take, IfOk, IsOkUnless, OnOk, OnErr};
+ghost use Rattle.std.specs.Prelude.{◌≡◌, ℕ, ◌+◌, ◌<◌, ◌≤◌, List, [], ◌++◌, drop, length, take, vec_len, IfOk, IsOkUnless, OnOk, OnErr};
+ghost use Rattle.mc_read.specs.Pulling.{PullsBehind};
 
-use bytes::Bytes;
 use mc_model::Fault;
+use mc_stream::{Input, Pull};
 use std::alloc::Global;
 use std::marker::Model;
-use std::mem;
 
 /// How many bytes of memory an empty buffer keeps at most.
 const SPARE_BYTES: usize = 65_536;
+
+/// How many bytes a pull takes at most.
+pub const ROOM_BYTES: usize = 16_384;
+
+/// What spare bytes are before any were written there.
+static ZEROES: [u8; ROOM_BYTES] = [0; ROOM_BYTES];
 
 /// A queue of bytes in one vector, between those that were taken and those that are spare: bytes
 /// of before, which are written over. The vector isn't shortened, since it would drop byte by byte.
@@ -52,6 +58,43 @@ fn write_over(bytes: &mut [u8], start: usize, piece: &[u8])
 {
     let (_, behind) = bytes.split_at_mut(start);
     behind[..piece.len()].copy_from_slice(piece);
+}
+
+/// Makes room for `count` bytes behind the first `end`. Returns `Memory` if an allocation fails;
+/// nothing changes then.
+#[inline(always)]
+fn make_room(bytes: &mut Vec<u8>, end: usize, count: usize) -> Result<(), Fault>
+    requires end { end ≤ vec_len bytes.old }
+    requires few { count ≤ ROOM_BYTES }
+    ensures room { OnOk result (end + count ≤ vec_len bytes.new) }
+    ensures front { take end bytes.new.items ≡ take end bytes.old.items }
+    ensures memory { IsOkUnless result Fault.Memory }
+    ensures unchanged { OnErr result (bytes.new.items ≡ bytes.old.items) }
+{
+    let spare = bytes.len() - end;
+    if count > spare {
+        bytes.extend_from_slice(&ZEROES[..count - spare])?;
+    }
+    Ok(())
+}
+
+/// Pulls into the bytes from `start` on, at most `most` of them. Returns how many came, too.
+#[inline(always)]
+fn pull_over<I: Input>(bytes: &mut [u8], start: usize, most: usize, input: &mut I) -> (Pull, usize)
+    requires some { 0 < most }
+    requires room { start + most ≤ length bytes.old }
+    ensures pulls { PullsBehind (I.tells input.old) (I.tells input.new) most (take start bytes.old)
+        (take (start + result.1) bytes.new) result.0 }
+    ensures few { result.1 ≤ most }
+    ensures len { length bytes.new ≡ length bytes.old }
+{
+    let (_, behind) = bytes.split_at_mut(start);
+    match input.pull(&mut behind[..most]) {
+        Pull::Bytes(count) => (Pull::Bytes(count), count),
+        Pull::Empty => (Pull::Empty, 0),
+        Pull::Ended => (Pull::Ended, 0),
+        Pull::Failed => (Pull::Failed, 0),
+    }
 }
 
 impl Buffer {
@@ -103,20 +146,21 @@ impl Buffer {
         Ok(())
     }
 
-    /// Returns the number of bytes for which there is memory.
-    pub fn capacity(&self) -> usize
-        ensures { length self.now ≤ result }
+    /// Pulls once, and appends the bytes that came: at most `most`, and no more than `ROOM_BYTES`.
+    /// Returns `Memory` if an allocation fails; nothing is pulled then.
+    pub fn pull<I: Input>(&mut self, input: &mut I, most: usize) -> Result<Pull, Fault>
+        requires { 0 < most }
+        ensures pulls { IfOk result
+            (PullsBehind (I.tells input.old) (I.tells input.new) most self.old self.new) }
+        ensures memory { IsOkUnless result Fault.Memory }
+        ensures unchanged { OnErr result ((self.new ≡ self.old) × (input.new ≡ input.old)) }
     {
-        self.bytes.capacity()
-    }
-
-    /// Makes room for `count` bytes in all, unless the allocation fails.
-    pub fn expect(&mut self, count: usize)
-        ensures { self.new ≡ self.old }
-    {
+        let most = most.min(ROOM_BYTES);
         self.settle();
-        let held = self.bytes.len() - self.taken;
-        let _ = self.bytes.reserve_exact(count.saturating_sub(held));
+        make_room(&mut self.bytes, self.end, most)?;
+        let (pull, count) = pull_over(&mut self.bytes, self.end, most, input);
+        self.end += count;
+        Ok(pull)
     }
 
     /// Removes `count` bytes from the front.
@@ -138,40 +182,6 @@ impl Buffer {
         self.end = 0;
         if self.bytes.capacity() > SPARE_BYTES {
             self.bytes = Vec::new(*self.bytes.allocator());
-        }
-    }
-
-    /// Removes `count` bytes from the front and returns them without copying them; the memory is
-    /// theirs from then on, and the bytes behind them are copied. Returns `Memory` if an allocation
-    /// fails; the queue is unchanged then.
-    pub fn share_front(&mut self, count: usize) -> Result<Bytes, Fault>
-        requires { count ≤ length self.old }
-        ensures front { IfOk result (λ bytes. bytes ≡ take count self.old) }
-        ensures behind { OnOk result (self.new ≡ drop count self.old) }
-        ensures memory { IsOkUnless result Fault.Memory }
-        ensures unchanged { OnErr result (self.new ≡ self.old) }
-    {
-        let alloc = *self.bytes.allocator();
-        let start = self.taken;
-        let behind = Vec::from_slice(alloc, &self.as_slice()[count..])?;
-        let end = mem::replace(&mut self.end, behind.len());
-        self.taken = 0;
-        match Bytes::from_vec(mem::replace(&mut self.bytes, behind)) {
-            Ok(all) => {
-                let mut front = all;
-                front.truncate(end);
-                front.advance(start);
-                front.truncate(count);
-                Ok(front)
-            }
-            Err(failed) => {
-                *self = Buffer {
-                    bytes: failed.value,
-                    taken: start,
-                    end,
-                };
-                Err(Fault::Memory)
-            }
         }
     }
 }

@@ -5,15 +5,18 @@ ghost use Rattle.mc_model.specs.declared.request.Request.{Request};
 ghost use Rattle.mc_read.specs.declared.speaker.Speaker.TheVariants as speakers;
 ghost use Rattle.mc_read.specs.Administering.{lines_spoken};
 ghost use Rattle.mc_read.specs.Line.{HasLawfulBlock};
+ghost use Rattle.mc_read.specs.Pulling.{Pulls};
 ghost use Rattle.mc_read.specs.Reading.{ends_stream, Ended, IsFed, Kept, Swallowing, raised};
-ghost use Rattle.mc_read.specs.State.{EndsInRefusal, IsAllSearched, IsNextAnswer, IsLineAt, IsSearched, IsStateOf, ahead_in, held_in, line_reach, searched_in, state_past, to_search};
+ghost use Rattle.mc_read.specs.State.{EndsInRefusal, Feeds, IsAllSearched, IsNextAnswer, IsLineAt, IsSearched, IsStateOf, ahead_in, held_in, line_reach, searched_in, state_past, to_search};
 ghost use Rattle.mc_read.specs.Text.{IsTooLongText, IsUnended, Lines, stored_if};
 
 use crate::line::{Asked, BLOCK_LENGTH, Header, LINE_BYTES, refused};
+use crate::read_line::ReadLine;
 use crate::source::Source;
 use crate::speaker::Speaker;
 use bytes::Bytes;
 use mc_model::{Data, Fault, Request, WireNo};
+use mc_stream::{Input, Pull};
 use std::alloc::Global;
 use std::marker::Model;
 use std::mem;
@@ -25,10 +28,12 @@ enum State {
     AwaitsLine {
         searched: usize,
     },
-    /// Its line has arrived, `line` bytes long, and its block is awaited.
+    /// Its line was read, and its block is awaited, with the two bytes after it: `body` has room
+    /// for these, and what has come of them.
     AwaitsBlock {
-        line: usize,
+        line: ReadLine,
         header: Header,
+        body: Vec<u8>,
     },
     /// Its block is refused; `left` bytes of it and of the two after it are still to come.
     SwallowsBlock {
@@ -162,8 +167,8 @@ fn read_asked(
                     Ok((Some(request), State::AwaitsLine { searched: 0 }))
                 }
                 None => {
-                    buffer.expect(line, size);
-                    Ok((None, State::AwaitsBlock { line, header }))
+                    let (line, body) = buffer.begin_block(alloc, line, size)?;
+                    Ok((None, State::AwaitsBlock { line, header, body }))
                 }
             }
         }
@@ -326,6 +331,25 @@ fn take_slice(state: &mut State, buffer: &mut Source, piece: &[u8]) -> Result<()
     }
 }
 
+/// Drops those of the bytes that aren't to be read: what has come of a refused block, and all after
+/// the end.
+fn drop_unread(state: &mut State, buffer: &mut Source)
+    ensures feeds { (lines : Lines) (bytes piece : List ℕ) → IsStateOf lines state.old bytes →
+        buffer.old ≡ bytes ++ piece → Feeds lines state.old bytes piece state.new buffer.new }
+    ensures searched { searched_in state.new ≡ searched_in state.old }
+{
+    match state {
+        State::AwaitsLine { .. } => {}
+        State::AwaitsBlock { .. } => {}
+        State::SwallowsBlock { left, .. } => {
+            let count = (*left).min(buffer.len() as u64);
+            buffer.advance(count as usize);
+            *left -= count;
+        }
+        State::Ended => buffer.clear(),
+    }
+}
+
 /// Reads requests from a stream that comes in pieces of any size.
 ///
 /// What is kept once `next` has returned `None` is bounded: of a line no more than it may have, of
@@ -472,6 +496,26 @@ impl Reader {
         Ok(())
     }
 
+    /// Pulls once, at most `most` bytes, and takes those that came, as `feed`. They come straight
+    /// into the reader's memory. Returns `Memory` if an allocation fails; nothing is pulled then.
+    pub fn pull<I: Input>(&mut self, input: &mut I, most: usize) -> Result<Pull, Fault>
+        requires { 0 < most }
+        ensures pulls { IfOk result
+            (Pulls (I.tells input.old) (I.tells input.new) most self.old self.new) }
+        ensures speaker { self.new.speaker ≡ self.old.speaker }
+        ensures scanned { self.new.scanned ≡ self.old.scanned }
+        ensures searched { self.new.searched ≡ self.old.searched }
+        ensures memory { IsOkUnless result Fault.Memory }
+        ensures unchanged { OnErr result ((self.new ≡ self.old) × (input.new ≡ input.old)) }
+    {
+        let pull = self.buffer.pull(input, most)?;
+        if let Pull::Bytes(count) = pull {
+            drop_unread(&mut self.state, &mut self.buffer);
+            self.fed = self.fed.saturating_add(count as u64);
+        }
+        Ok(pull)
+    }
+
     /// Returns the next request, or `None` if no whole request is held. Returns `Memory` if an
     /// allocation fails; nothing changes then.
     pub fn next(&mut self) -> Result<Option<Request>, Fault>
@@ -515,7 +559,7 @@ impl Reader {
         ensures fed { self.new.fed ≡ self.old.fed }
         ensures same { OnErr result (self.new ≡ self.old) }
     {
-        match &self.state {
+        match &mut self.state {
             State::AwaitsLine { searched } => {
                 let (request, state, count) = next_line(
                     self.alloc,
@@ -527,9 +571,9 @@ impl Reader {
                 self.scanned = self.scanned.saturating_add(count as u64);
                 Ok(request)
             }
-            State::AwaitsBlock { line, header } => {
+            State::AwaitsBlock { header, body, .. } => {
                 let size = header.length as usize;
-                let taken = self.buffer.take_block(self.alloc, *line, size)?;
+                let taken = self.buffer.finish_block(body, size)?;
                 let Some((block, ends_well)) = taken else {
                     return Ok(None);
                 };

@@ -1,28 +1,29 @@
 //! The bytes that have arrived and aren't read yet.
-ghost use Rattle.std.specs.Prelude.{◌≡◌, ℕ, ◌+◌, ◌-◌, ◌<◌, ◌≤◌, ◌⊎◌, List, [], ◌++◌, drop, length, take, IfOk, IsOkUnless, OnOk, OnErr};
+ghost use Rattle.std.specs.Prelude.{◌≡◌, ℕ, ◌+◌, ◌-◌, ◌<◌, ◌≤◌, ◌⊎◌, List, [], ◌++◌, drop, length, min, take, vec_len, IfOk, IfSome, IsOkUnless, MatchOption, OnOk, OnErr};
 ghost use Rattle.memchr.specs.Find.{IsFirstByte, is_byte};
 ghost use Rattle.mc_model.specs.declared.item.TheConstants.{DATA_BYTES};
 ghost use Rattle.mc_read.specs.Administering.{lines_spoken};
 ghost use Rattle.mc_read.specs.Line.{HasLawfulBlock};
-ghost use Rattle.mc_read.specs.State.{IsLineAt, IsSearched, IsSought, IsTaken};
+ghost use Rattle.mc_read.specs.Pulling.{PullsBehind};
+ghost use Rattle.mc_read.specs.State.{IsFinished, IsLineAt, IsSearched, IsSought, IsTaken};
 ghost use Rattle.mc_read.specs.Text.{ends_well};
 
+use crate::block::{copy_block, share_block, whole_block};
 use crate::buffer::Buffer;
 use crate::line::{Asked, LINE_BYTES};
+use crate::read_line::ReadLine;
 use crate::reader::Sought;
 use crate::speaker::Speaker;
 use bytes::Bytes;
 use mc_model::{Data, Fault};
+use mc_stream::{Input, Pull};
 use memchr::memchr;
 use std::alloc::Global;
 use std::marker::Model;
 
-/// The least number of bytes of a block that shares the memory in which it arrived. A shorter one
-/// would keep too much of it.
+/// The least number of bytes of a piece that is kept as it came, and of a block that shares it. A
+/// shorter block would keep too much of it.
 const LONG_BYTES: usize = 4_096;
-
-/// The most bytes for which an awaited block has room behind it.
-const ROOM_BEHIND: usize = 16_384;
 
 /// The piece that arrived last, and before it what is left of the pieces before. If requests are
 /// asked for after each piece, this is no more than a request that goes on in the last piece.
@@ -92,6 +93,23 @@ fn front<'a>(rest: &'a [u8], piece: &'a [u8], count: usize) -> &'a [u8]
     &rest[..count]
 }
 
+/// Returns the bytes from `start` to `end`, if they stand together.
+#[inline(always)]
+fn between<'a>(rest: &'a [u8], piece: &'a [u8], start: usize, end: usize) -> Option<&'a [u8]>
+    requires { (start ≤ end) × (end ≤ length rest.now + length piece.now) }
+    ensures { MatchOption result ((start < length rest.now) × (length rest.now < end))
+        (λ bytes. bytes.now ≡ take (end - start) (drop start (rest.now ++ piece.now))) }
+{
+    let held = rest.len();
+    if end <= held {
+        Some(&rest[start..end])
+    } else if held <= start {
+        Some(&piece[start - held..end - held])
+    } else {
+        None
+    }
+}
+
 /// Removes `count` bytes from the front of a piece. One that is used up keeps no memory.
 fn advance_piece(piece: &mut Bytes, count: usize)
     requires { count ≤ length piece.old }
@@ -101,6 +119,91 @@ fn advance_piece(piece: &mut Bytes, count: usize)
         piece.advance(count);
     } else if count > 0 {
         *piece = Bytes::new();
+    }
+}
+
+/// Moves what is left of the piece behind the rest. Returns `Memory` if an allocation fails; nothing
+/// changes then.
+#[inline(always)]
+fn join(rest: &mut Buffer, piece: &mut Bytes) -> Result<(), Fault>
+    ensures same { rest.new ++ piece.new ≡ rest.old ++ piece.old }
+    ensures joined { OnOk result (piece.new ≡ []) }
+    ensures memory { IsOkUnless result Fault.Memory }
+{
+    if !piece.is_empty() {
+        rest.extend(piece.as_slice())?;
+        *piece = Bytes::new();
+    }
+    Ok(())
+}
+
+/// Moves bytes from the front of the piece to the end of the rest, until this has `count`; if it is
+/// empty, the first `count` bytes already stand together. Returns `Memory` if an allocation fails;
+/// nothing changes then.
+fn gather(rest: &mut Buffer, piece: &mut Bytes, count: usize) -> Result<(), Fault>
+    requires { count ≤ length rest.old + length piece.old }
+    ensures same { rest.new ++ piece.new ≡ rest.old ++ piece.old }
+    ensures count { OnOk result ((rest.new ≡ []) ⊎ (count ≤ length rest.new)) }
+    ensures memory { IsOkUnless result Fault.Memory }
+{
+    let held = rest.as_slice().len();
+    if (held > 0) & (held < count) {
+        rest.extend(&piece.as_slice()[..count - held])?;
+        piece.advance(count - held);
+    }
+    Ok(())
+}
+
+/// Copies the bytes from `start` to `end` to memory of their own. Returns `Memory` if an allocation
+/// fails.
+fn copy_between(
+    alloc: Global,
+    rest: &[u8],
+    piece: &[u8],
+    start: usize,
+    end: usize,
+) -> Result<Vec<u8>, Fault>
+    requires parted { (start ≤ length rest.now) × (length rest.now ≤ end) }
+    requires inside { end ≤ length rest.now + length piece.now }
+    ensures bytes { IfOk result (λ bytes. bytes.items
+        ≡ take (end - start) (drop start (rest.now ++ piece.now))) }
+    ensures memory { IsOkUnless result Fault.Memory }
+{
+    let mut bytes = Vec::with_capacity(alloc, end - start)?;
+    bytes.extend_from_slice(&rest[start..])?;
+    bytes.extend_from_slice(&piece[..end - rest.len()])?;
+    Ok(bytes)
+}
+
+/// Returns the block from `start` on, which has arrived whole and ends two bytes before `end`, with
+/// whether these two are a line end. Returns `Memory` if an allocation fails.
+#[inline(always)]
+fn block_between(
+    alloc: Global,
+    rest: &[u8],
+    piece: &Bytes,
+    start: usize,
+    end: usize,
+) -> Result<(Data, bool), Fault>
+    requires some { start + 2 ≤ end }
+    requires small { end ≤ start + (DATA_BYTES + 2) }
+    requires whole { end ≤ length rest.now + length piece.now }
+    ensures block { IfOk result (λ block. block.0
+        ≡ take (end - start - 2) (take (end - start) (drop start (rest.now ++ piece.now)))) }
+    ensures ends_well { IfOk result (λ block. block.1 ≡ ends_well
+        (drop (end - start - 2) (take (end - start) (drop start (rest.now ++ piece.now))))) }
+    ensures memory { IsOkUnless result Fault.Memory }
+{
+    let size = end - start - 2;
+    if size >= LONG_BYTES && rest.len() <= start {
+        return share_block(piece, start - rest.len(), size);
+    }
+    match between(rest, piece.as_slice(), start, end) {
+        Some(body) => copy_block(alloc, size, body),
+        None => {
+            let mut body = copy_between(alloc, rest, piece.as_slice(), start, end)?;
+            whole_block(&mut body, size)
+        }
     }
 }
 
@@ -132,9 +235,7 @@ impl Source {
         if piece.len() < LONG_BYTES {
             return self.extend(piece.as_slice());
         }
-        if !self.piece.is_empty() {
-            self.rest.extend(self.piece.as_slice())?;
-        }
+        join(&mut self.rest, &mut self.piece)?;
         self.piece = piece;
         Ok(())
     }
@@ -147,21 +248,22 @@ impl Source {
         ensures memory { IsOkUnless result Fault.Memory }
         ensures unchanged { OnErr result (self.new ≡ self.old) }
     {
-        if !self.piece.is_empty() {
-            self.rest.extend(self.piece.as_slice())?;
-            self.piece = Bytes::new();
-        }
+        join(&mut self.rest, &mut self.piece)?;
         self.rest.extend(piece)
     }
 
-    /// Makes room for a line and an awaited block of this size, unless the allocation fails.
-    pub fn expect(&mut self, line: usize, size: usize)
-        requires { (line ≤ LINE_BYTES) × (size ≤ DATA_BYTES) }
-        ensures { self.new ≡ self.old }
+    /// Pulls once, and appends the bytes that came, at most `most`. Returns `Memory` if an
+    /// allocation fails; nothing is pulled then.
+    #[inline(always)]
+    pub fn pull<I: Input>(&mut self, input: &mut I, most: usize) -> Result<Pull, Fault>
+        requires { 0 < most }
+        ensures pulls { IfOk result
+            (PullsBehind (I.tells input.old) (I.tells input.new) most self.old self.new) }
+        ensures memory { IsOkUnless result Fault.Memory }
+        ensures unchanged { OnErr result ((self.new ≡ self.old) × (input.new ≡ input.old)) }
     {
-        if size >= LONG_BYTES {
-            self.rest.expect(line + size + (size / 2).min(ROOM_BEHIND));
-        }
+        join(&mut self.rest, &mut self.piece)?;
+        self.rest.pull(input, most)
     }
 
     /// Removes `count` bytes from the front.
@@ -187,23 +289,6 @@ impl Source {
         self.piece = Bytes::new();
     }
 
-    /// Moves bytes from the front of the piece to the end of the rest, until this has `count`; if
-    /// it is empty, the first `count` bytes already stand together. Returns `Memory` if an
-    /// allocation fails; nothing changes then.
-    fn gather(rest: &mut Buffer, piece: &mut Bytes, count: usize) -> Result<(), Fault>
-        requires { count ≤ length rest.old + length piece.old }
-        ensures same { rest.new ++ piece.new ≡ rest.old ++ piece.old }
-        ensures count { OnOk result ((rest.new ≡ []) ⊎ (count ≤ length rest.new)) }
-        ensures memory { IsOkUnless result Fault.Memory }
-    {
-        let held = rest.as_slice().len();
-        if (held > 0) & (held < count) {
-            rest.extend(&piece.as_slice()[..count - held])?;
-            piece.advance(count - held);
-        }
-        Ok(())
-    }
-
     /// Searches for the end of the first line, which isn't in the first `searched` bytes.
     #[inline(always)]
     pub fn find(&self, searched: usize) -> Sought
@@ -226,15 +311,15 @@ impl Source {
         ensures memory { IsOkUnless result Fault.Memory }
         ensures same { self.new ≡ self.old }
     {
-        Source::gather(&mut self.rest, &mut self.piece, line + 1)?;
+        gather(&mut self.rest, &mut self.piece, line + 1)?;
         let front = front(self.rest.as_slice(), self.piece.as_slice(), line + 1);
         speaker.ask(alloc, &front[..line])
     }
 
     /// Removes a line and its block from the front, if the block has arrived whole with the two
-    /// bytes after it. Returns the block, and whether those two are a line end. Returns `Memory` if
-    /// an allocation fails; nothing is removed then. Inlined, since a reader fed byte by byte calls
-    /// it after each.
+    /// bytes after it. Returns the block, and whether those two are a line end. A long block in one
+    /// piece shares it; any other is copied once. Returns `Memory` if an allocation fails; nothing
+    /// is removed then.
     #[inline(always)]
     pub fn take_block(
         &mut self,
@@ -254,126 +339,81 @@ impl Source {
             return Ok(None);
         }
         let end = start + (size + 2);
-        Source::gather(&mut self.rest, &mut self.piece, end)?;
-        if size >= LONG_BYTES {
-            let taken = take_long(alloc, &mut self.rest, &mut self.piece, start, size)?;
-            return Ok(Some(taken));
-        }
-        let front = front(self.rest.as_slice(), self.piece.as_slice(), end);
-        let block = copy_block(alloc, size, &front[start..end])?;
+        let block = block_between(alloc, self.rest.as_slice(), &self.piece, start, end)?;
         self.advance(end);
         Ok(Some(block))
     }
-}
 
-/// Returns whether these bytes, which follow a block, are a line end.
-fn is_line_end(after: &[u8]) -> bool
-    ensures { result ≡ ends_well after.now }
-{
-    after == b"\r\n".as_slice()
-}
+    /// Removes a line and all that stands behind it, which is less than its block and the two bytes
+    /// after it. Returns the line, and the rest in memory that has room for these. Returns `Memory`
+    /// if an allocation fails; nothing is removed then.
+    pub fn begin_block(
+        &mut self,
+        alloc: Global,
+        line: usize,
+        size: usize,
+    ) -> Result<(ReadLine, Vec<u8>), Fault>
+        requires line { IsLineAt self.old line }
+        requires small { size ≤ DATA_BYTES }
+        ensures line { IfOk result (λ begun. begun.0.text ≡ take line self.old) }
+        ensures body { IfOk result (λ begun. begun.1.items ≡ drop (line + 1) self.old) }
+        ensures none { OnOk result (self.new ≡ []) }
+        ensures memory { IsOkUnless result Fault.Memory }
+        ensures unchanged { OnErr result (self.new ≡ self.old) }
+    {
+        gather(&mut self.rest, &mut self.piece, line + 1)?;
+        let (rest, piece) = (self.rest.as_slice(), self.piece.as_slice());
+        let read = ReadLine::of(&front(rest, piece, line + 1)[..line]);
+        let mut body = Vec::with_capacity(alloc, size + 2)?;
+        let start = (line + 1).min(rest.len());
+        body.extend_from_slice(&rest[start..])?;
+        body.extend_from_slice(&piece[line + 1 - start..])?;
+        self.clear();
+        Ok((read, body))
+    }
 
-/// Copies a block out of the bytes after its line, and returns with it whether the two bytes after
-/// it are a line end. Returns `Memory` if an allocation fails.
-#[inline(always)]
-fn copy_block(alloc: Global, size: usize, body: &[u8]) -> Result<(Data, bool), Fault>
-    requires small { size ≤ DATA_BYTES }
-    requires whole { length body.now ≡ size + 2 }
-    ensures block { IfOk result (λ copied. copied.0 ≡ take size body.now) }
-    ensures ends_well { IfOk result (λ copied. copied.1 ≡ ends_well (drop size body.now)) }
-    ensures memory { IsOkUnless result Fault.Memory }
-{
-    let ends_well = is_line_end(&body[size..]);
-    match Data::shareable(Vec::from_slice(alloc, &body[..size])?)? {
-        Some(block) => Ok((block, ends_well)),
-        None => unreachable!(),
+    /// Moves bytes from the front to those of a block, and returns the block once it is whole, with
+    /// whether the two bytes after it are a line end. Returns `Memory` if an allocation fails;
+    /// nothing is removed then.
+    pub fn finish_block(
+        &mut self,
+        body: &mut Vec<u8>,
+        size: usize,
+    ) -> Result<Option<(Data, bool)>, Fault>
+        requires small { size ≤ DATA_BYTES }
+        requires few { length body.old.items ≤ size + 2 }
+        ensures finished { IfOk result (λ taken.
+            IsFinished size (body.old.items ++ self.old) taken (body.new.items ++ self.new)) }
+        ensures none { IfOk result
+            (λ taken. IfSome taken (λ _. body.new.items ≡ [])) }
+        ensures few { length body.new.items ≤ size + 2 }
+        ensures memory { IsOkUnless result Fault.Memory }
+        ensures unchanged { OnErr result
+            (body.new.items ++ self.new ≡ body.old.items ++ self.old) }
+    {
+        self.move_to(body, size + 2)?;
+        if body.len() < size + 2 {
+            return Ok(None);
+        }
+        Ok(Some(whole_block(body, size)?))
     }
-}
 
-/// Removes a line and its block from the front of a piece, whose memory the block shares. Returns
-/// it, with whether the two bytes after it are a line end. Returns `Memory` if an allocation fails;
-/// nothing is removed then.
-fn block_of_piece(piece: &mut Bytes, start: usize, size: usize) -> Result<(Data, bool), Fault>
-    requires small { size ≤ DATA_BYTES }
-    requires whole { start + (size + 2) ≤ length piece.old }
-    ensures block { IfOk result
-        (λ taken. taken.0 ≡ take size (take (size + 2) (drop start piece.old))) }
-    ensures ends_well { IfOk result
-        (λ taken. taken.1 ≡ ends_well (drop size (take (size + 2) (drop start piece.old)))) }
-    ensures left { OnOk result (piece.new ≡ drop (start + (size + 2)) piece.old) }
-    ensures memory { IsOkUnless result Fault.Memory }
-    ensures unchanged { OnErr result (piece.new ≡ piece.old) }
-{
-    let bytes = piece.as_slice();
-    let end = start + (size + 2);
-    let body = &bytes[start..end];
-    let ends_well = is_line_end(&body[size..]);
-    let block = piece.slice(start..start + size)?;
-    advance_piece(piece, end);
-    match Data::from_bytes(block) {
-        Some(block) => Ok((block, ends_well)),
-        None => unreachable!(),
+    /// Moves bytes from the front to the end of a block's, until these are `most`. Returns `Memory`
+    /// if an allocation fails.
+    fn move_to(&mut self, body: &mut Vec<u8>, most: usize) -> Result<(), Fault>
+        requires { vec_len body.old ≤ most }
+        ensures same { body.new.items ++ self.new ≡ body.old.items ++ self.old }
+        ensures within { vec_len body.new ≤ most }
+        ensures all { OnOk result ((vec_len body.new ≡ most) ⊎ (self.new ≡ [])) }
+        ensures memory { IsOkUnless result Fault.Memory }
+    {
+        let rest = self.rest.as_slice();
+        let count = rest.len().min(most - body.len());
+        body.extend_from_slice(&rest[..count])?;
+        self.rest.advance(count);
+        let count = self.piece.len().min(most - body.len());
+        body.extend_from_slice(&self.piece.as_slice()[..count])?;
+        advance_piece(&mut self.piece, count);
+        Ok(())
     }
-}
-
-/// Removes a line and its block from the front, without copying the block. Returns it, with whether
-/// the two bytes after it are a line end. Returns `Memory` if an allocation fails; nothing is
-/// removed then.
-fn block_of_rest(rest: &mut Buffer, start: usize, size: usize) -> Result<(Data, bool), Fault>
-    requires small { size ≤ DATA_BYTES }
-    requires whole { start + (size + 2) ≤ length rest.old }
-    ensures block { IfOk result
-        (λ taken. taken.0 ≡ take size (take (size + 2) (drop start rest.old))) }
-    ensures ends_well { IfOk result
-        (λ taken. taken.1 ≡ ends_well (drop size (take (size + 2) (drop start rest.old)))) }
-    ensures left { OnOk result (rest.new ≡ drop (start + (size + 2)) rest.old) }
-    ensures memory { IsOkUnless result Fault.Memory }
-    ensures unchanged { OnErr result (rest.new ≡ rest.old) }
-{
-    let bytes = rest.as_slice();
-    let end = start + (size + 2);
-    let body = &bytes[start..end];
-    let ends_well = is_line_end(&body[size..]);
-    let mut block = rest.share_front(end)?;
-    block.advance(start);
-    block.truncate(size);
-    match Data::from_bytes(block) {
-        Some(block) => Ok((block, ends_well)),
-        None => unreachable!(),
-    }
-}
-
-/// Does as `Source::take_block` for a long block that has arrived whole. In one piece it shares the
-/// piece. In the rest it takes the memory in which it is, if that isn't much more than its own, and
-/// else is copied: so it keeps at most twice its own bytes in memory, and no more than those of the
-/// block are copied.
-fn take_long(
-    alloc: Global,
-    rest: &mut Buffer,
-    piece: &mut Bytes,
-    start: usize,
-    size: usize,
-) -> Result<(Data, bool), Fault>
-    requires small { size ≤ DATA_BYTES }
-    requires together { (rest.old ≡ []) ⊎ (start + (size + 2) ≤ length rest.old) }
-    requires whole { start + (size + 2) ≤ length rest.old + length piece.old }
-    ensures block { IfOk result
-        (λ taken. taken.0 ≡ take size (take (size + 2) (drop start (rest.old ++ piece.old)))) }
-    ensures ends_well { IfOk result (λ taken. taken.1
-        ≡ ends_well (drop size (take (size + 2) (drop start (rest.old ++ piece.old))))) }
-    ensures left { OnOk result
-        (rest.new ++ piece.new ≡ drop (start + (size + 2)) (rest.old ++ piece.old)) }
-    ensures memory { IsOkUnless result Fault.Memory }
-    ensures unchanged { OnErr result (rest.new ++ piece.new ≡ rest.old ++ piece.old) }
-{
-    if rest.as_slice().is_empty() {
-        return block_of_piece(piece, start, size);
-    }
-    if rest.capacity() / 2 <= size {
-        return block_of_rest(rest, start, size);
-    }
-    let end = start + (size + 2);
-    let taken = copy_block(alloc, size, &rest.as_slice()[start..end])?;
-    rest.advance(end);
-    Ok(taken)
 }

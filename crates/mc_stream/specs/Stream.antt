@@ -1,6 +1,7 @@
 -- What a pull gives and a push takes, and what an input and an output report of themselves; this
 -- project's profile.
-use Rattle.std.specs.Prelude.{ℕ, ◌≤◌, List, [], take, Option}
+use Rattle.std.specs.Io.KnownBytes.{Consumes, IsAtEnd}
+use Rattle.std.specs.Prelude.{◌≡◌, ℕ, ◌≤◌, List, [], ◌∷◌, length, take, Option}
 use Rattle.mc_stream.specs.Event.{Event, Moves, Waits, Ends, Fails}
 use Rattle.mc_stream.specs.declared.stream.Pull.{Pull}
 use Rattle.mc_stream.specs.declared.stream.Pull.TheVariants.{Bytes, Empty, Ended, Failed as InputFailed}
@@ -45,6 +46,13 @@ TakesAtMost there OutputFailed = Unit {0}
 pub record Inflow : Type 0 where
   pub events : List Event
   pub left : Option (List ℕ)
+
+-- a pull into memory that holds these bytes afterwards: those that it gave, and any behind them
+pub record IsPull (before after : Inflow) (pull : Pull) (memory : List ℕ) : Type 0 where
+  pub count : GivesAtMost (length memory) pull
+  pub event : after.events ≡ pull_event pull memory ∷ before.events
+  pub rest : Consumes before.left after.left (pulled_by pull memory)
+  pub no_more : pull ≡ Ended → IsAtEnd after.left
 
 -- what an output reports: what each push did
 pub record Outflow : Type 0 where
