@@ -9,9 +9,6 @@ pub(crate) const REQUESTS_OF_A_READ: u64 = 32;
 /// How many bytes a read takes at most where a connection's requests are small, or not known yet.
 const LEAST_READ: usize = 1_024;
 
-/// If the mean is above this, the requests that have a block don't come whole by one read.
-const LONG_REQUEST: u64 = 8_192;
-
 /// The mean moves by one part in eight to what the last requests had.
 const PART: u64 = 8;
 
@@ -48,15 +45,11 @@ impl Pace {
 
     /// Returns how many bytes the next reads take at most.
     ///
-    /// That is all that there is room for if nothing was answered yet, since a block may be on its
-    /// way. Of a long request the first read takes few, so that its block has memory of its own
-    /// before much of it has come.
+    /// That is as many as a read may take if bytes came and nothing was answered yet, since a block
+    /// may be on its way.
     pub(crate) fn most_read(&self) -> usize {
         if self.unanswered > 0 {
             return PULL_BYTES;
-        }
-        if self.mean > LONG_REQUEST {
-            return LEAST_READ;
         }
         let bytes = self.mean.saturating_mul(REQUESTS_OF_A_READ) as usize;
         bytes.clamp(LEAST_READ, PULL_BYTES)

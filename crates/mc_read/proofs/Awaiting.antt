@@ -1,5 +1,5 @@
 -- A line that was read, and what has arrived of its block.
-use Rattle.std.proofs.Common.{◌≡◌, ℕ, ◌+◌, ◌-◌, ◌<◌, ◌≤◌, ◌↔◌, Bool, List, [], ◌∷◌, ◌++◌, length, take, drop, min, Some, None, sym, ◌∙◌, ap, refl, subst, append-nil, length-append, length-drop, arith}
+use Rattle.std.proofs.Common.{◌≡◌, ℕ, ◌+◌, ◌-◌, ◌≤◌, Bool, List, [], ◌∷◌, ◌++◌, length, take, drop, Some, None, sym, ◌∙◌, ap, subst, append-nil, length-append, arith}
 use Rattle.std.proofs.lemmas.List.{append_assoc, drop-drop}
 use Rattle.std.proofs.Math.Seq.{drop-append-add, take-append_seam}
 use Rattle.mc_model.specs.declared.item.Data.{Data}
@@ -9,7 +9,6 @@ use Rattle.mc_read.specs.declared.line.Asked.TheVariants.{RefusedBlock, StoredBl
 use Rattle.mc_read.specs.declared.line.Header.{Header}
 use Rattle.mc_read.specs.declared.line.TheConstants.{LINE_BYTES}
 use Rattle.mc_read.specs.declared.read_line.ReadLine.{ReadLine}
-use Rattle.mc_read.specs.First.{line_length}
 use Rattle.mc_read.specs.Reading.{IsFed, Kept}
 use Rattle.mc_read.specs.State.{EndsInRefusal, IsLineAt, IsFinished, IsNextAnswer, awaited, line_reach}
 use Rattle.mc_read.specs.Text.{IsUnbroken, Lines, ends_well, stored_if}

@@ -1,5 +1,5 @@
 -- Bytes in two lists, of which parts are moved or copied.
-use Rattle.std.proofs.Common.{◌≡◌, ℕ, ◌+◌, ◌-◌, ◌<◌, ◌≤◌, ◌⊎◌, inl, inr, List, [], ◌++◌, length, take, drop, min, sym, ◌∙◌, ap, refl, subst, append-nil, length-drop, arith, ⊎_elim}
+use Rattle.std.proofs.Common.{◌≡◌, ℕ, ◌+◌, ◌-◌, ◌≤◌, ◌⊎◌, inl, inr, List, [], ◌++◌, length, take, drop, min, sym, ◌∙◌, ap, append-nil, length-drop, arith, ⊎_elim}
 use Rattle.std.proofs.lemmas.Bool.{cases_lt}
 use Rattle.std.proofs.lemmas.List.{append_assoc, drop_all, drop-append-le, take_all, take-append-drop}
 use Rattle.std.proofs.Math.Seq.{drop-append-add, take-append-add}

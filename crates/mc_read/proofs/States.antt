@@ -1,7 +1,7 @@
 -- What is true of a reader's fields stays true when bytes come.
 use Rattle.std.proofs.Common.{◌≡◌, ℕ, ◌-◌, ◌<◌, ◌≤◌, ◌↔◌, Bool, inl, inr, ◌⊎◌, List, [], ◌++◌, length, Option, Result, Ok, Err, OnOk, OnErr, sym, ◌∙◌, ap, subst, ⊎_elim, length-append, arith}
 use Rattle.std.proofs.lemmas.Bool.{both_ways, cases_lt}
-use Rattle.std.proofs.lemmas.List.{get_or_append_left, nil_from_length, take-append-le}
+use Rattle.std.proofs.lemmas.List.{get_or_append_left, nil_from_length}
 use Rattle.std.proofs.lemmas.List.Sums.{fails_before_first, passes_at_first, position_or_len_is}
 use Rattle.std.specs.Global.{Vec}
 use Rattle.mc_model.specs.declared.fault.Fault.{Fault}

@@ -14,7 +14,7 @@ pub record PullsBehind (before after : Inflow) (most : ℕ) (old new : List ℕ)
   pub bytes : new ≡ old ++ pulled_by pull memory
 
 -- a pull of at most so many bytes, and the reader was fed those that came: they are counted
-pub record Pulls (before after : Inflow) (most : ℕ) (old new : ReaderView)
+pub record IsFedByPull (before after : Inflow) (most : ℕ) (old new : ReaderView)
     (pull : Pull) : Type 0 where
   pub memory : List ℕ
   pub is : IsPull before after pull memory

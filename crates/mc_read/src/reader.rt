@@ -5,7 +5,7 @@ ghost use Rattle.mc_model.specs.declared.request.Request.{Request};
 ghost use Rattle.mc_read.specs.declared.speaker.Speaker.TheVariants as speakers;
 ghost use Rattle.mc_read.specs.Administering.{lines_spoken};
 ghost use Rattle.mc_read.specs.Line.{HasLawfulBlock};
-ghost use Rattle.mc_read.specs.Pulling.{Pulls};
+ghost use Rattle.mc_read.specs.Pulling.{IsFedByPull};
 ghost use Rattle.mc_read.specs.Reading.{ends_stream, Ended, IsFed, Kept, Swallowing, raised};
 ghost use Rattle.mc_read.specs.State.{EndsInRefusal, Feeds, IsAllSearched, IsNextAnswer, IsLineAt, IsSearched, IsStateOf, ahead_in, held_in, line_reach, searched_in, state_past, to_search};
 ghost use Rattle.mc_read.specs.Text.{IsTooLongText, IsUnended, Lines, stored_if};
@@ -354,7 +354,7 @@ fn drop_unread(state: &mut State, buffer: &mut Source)
 ///
 /// What is kept once `next` has returned `None` is bounded: of a line no more than it may have, of
 /// a refused block nothing, and of a block that is to be stored no more than has arrived. Memory
-/// for all of a long block is asked for once its length is known.
+/// for all of a block that is awaited is asked for once its line is read.
 #[derive(Debug, Drop)]
 pub struct Reader {
     alloc: Global,
@@ -501,7 +501,7 @@ impl Reader {
     pub fn pull<I: Input>(&mut self, input: &mut I, most: usize) -> Result<Pull, Fault>
         requires { 0 < most }
         ensures pulls { IfOk result
-            (Pulls (I.tells input.old) (I.tells input.new) most self.old self.new) }
+            (IsFedByPull (I.tells input.old) (I.tells input.new) most self.old self.new) }
         ensures speaker { self.new.speaker ≡ self.old.speaker }
         ensures scanned { self.new.scanned ≡ self.old.scanned }
         ensures searched { self.new.searched ≡ self.old.searched }

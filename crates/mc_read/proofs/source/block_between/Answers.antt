@@ -1,4 +1,4 @@
-use Rattle.std.proofs.Common.{◌≡◌, ◌≤◌, ◌+◌, ◌-◌, ◌++◌, IfOk, length, take, drop, ◌∙◌, ap, sym, subst, arith}
+use Rattle.std.proofs.Common.{◌≡◌, ◌≤◌, ◌+◌, ◌-◌, ◌++◌, IfOk, length, take, drop, sym, subst, arith}
 use Rattle.mc_read.specs.Text.{ends_well}
 use Rattle.mc_read.proofs.Parts.{behind_rest}
 use Rattle.mc_read.proofs.source.block_between.Goals as goal

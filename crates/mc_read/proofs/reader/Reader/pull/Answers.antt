@@ -1,6 +1,6 @@
 use Rattle.std.proofs.Common.{◌≡◌, ◌+◌, ◌-◌, ◌^◌, length, min, sym, ◌∙◌, ap, subst, rules}
 use Rattle.mc_read.specs.Administering.{lines_spoken}
-use Rattle.mc_read.specs.Pulling.{Pulls}
+use Rattle.mc_read.specs.Pulling.{IsFedByPull}
 use Rattle.mc_read.specs.Reading.{IsFed, ReaderView, raised}
 use Rattle.mc_read.specs.State.{held_in, searched_in}
 use Rattle.mc_stream.specs.Stream.{pulled_by}
@@ -28,7 +28,7 @@ returns-in-Bytes-clause-pulls g c =
     let feeds = c.drop_unread.ensures.feeds lines c.self.inside.buffer piece c.self.invariant.stands pulls.bytes in
     let after = held_in c.drop_unread.new.state c.drop_unread.new.buffer in
     let new : ReaderView = record { speaker = c.self.inside.speaker; held = after; fed = c.saturating_add-self-inside.result; scanned = c.self.inside.scanned; searched = searched_in c.drop_unread.new.state } in
-    subst (λ pull. Pulls (g.I.Input.tells c.args.input.now) (g.I.Input.tells c.pull.new.input) c.args.most c.args.self.now new pull) c.in-Bytes.is (record {
+    subst (λ pull. IsFedByPull (g.I.Input.tells c.args.input.now) (g.I.Input.tells c.pull.new.input) c.args.most c.args.self.now new pull) c.in-Bytes.is (record {
       memory = pulls.memory;
       is = pulls.is;
       few = pulls.few;

@@ -1,4 +1,4 @@
-use Rattle.std.proofs.Common.{◌++◌, length, length-take, take, drop, ◌∙◌, ap, arith}
+use Rattle.std.proofs.Common.{◌++◌, length, length-take, take, ◌∙◌, ap, arith}
 use Rattle.mc_read.proofs.Parts.{moved_front, room_left}
 use Rattle.mc_read.proofs.source.Source.move_to.Goals as goal
 
