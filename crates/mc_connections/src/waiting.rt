@@ -10,10 +10,10 @@ use std::mem;
 
 /// What a tenant's connections may spend in their turn, in bytes that their streams give and take;
 /// serving one of them, and each of its requests, counts as some.
-const QUANTUM: u64 = 32_768;
+const QUANTUM: u64 = 20_480;
 
 /// How much is spent in a round at least before it ends with a turn, while anybody waits.
-const ROUND: u64 = 16_384;
+const ROUND: u64 = 10_240;
 
 /// As how many bytes it counts to serve a connection: what the system's calls cost.
 const BYTES_OF_A_SERVE: u64 = 4_096;

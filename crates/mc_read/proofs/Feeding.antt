@@ -2,17 +2,21 @@
 use Rattle.std.proofs.Common.{◌≡◌, ℕ, ◌+◌, ◌-◌, ◌^◌, ◌<◌, ◌≤◌, ◌⊎◌, inl, inr, Bool, List, [], ◌++◌, length, drop, min, sym, ◌∙◌, ap, subst, length-append, length-drop, arith, ⊎_elim}
 use Rattle.std.proofs.lemmas.Bool.{cases_lt}
 use Rattle.std.proofs.lemmas.List.{drop_all}
-use Rattle.std.specs.Global.{Vec}
+use Rattle.std.specs.Global.{Box}
+use Rattle.mc_model.specs.declared.item.TheConstants.{DATA_BYTES}
 use Rattle.mc_model.specs.declared.reply.WireNo.{WireNo}
 use Rattle.mc_model.specs.declared.request.Request.{Request}
 use Rattle.mc_read.specs.declared.line.Header.{Header}
-use Rattle.mc_read.specs.declared.read_line.ReadLine.{ReadLine}
+use Rattle.mc_read.specs.declared.awaited.Awaited.{Awaited}
+use Rattle.mc_read.specs.declared.awaited.ReadLine.{ReadLine}
+use Rattle.mc_read.specs.declared.line.Asked.TheVariants.{StoredBlock}
+use Rattle.mc_read.specs.declared.line.TheConstants.{LINE_BYTES}
 use Rattle.mc_read.specs.declared.reader.State.{State}
 use Rattle.mc_read.specs.declared.reader.State.TheVariants as state
 use Rattle.mc_read.specs.Line.{refused}
 use Rattle.mc_read.specs.Reading.{IsFed, Swallowing, raised}
-use Rattle.mc_read.specs.State.{Feeds, IsReader, IsStateOf, ahead_in}
-use Rattle.mc_read.specs.Text.{Lines}
+use Rattle.mc_read.specs.State.{Feeds, IsAwaited, IsReader, IsStateOf, ahead_in}
+use Rattle.mc_read.specs.Text.{IsUnbroken, Lines}
 use Rattle.mc_read.proofs.Awaiting.{fed_awaiting}
 use Rattle.mc_read.proofs.Holdings.{fed_after, fed_ended, fed_kept, fed_past, fed_within}
 use Rattle.mc_read.proofs.States.{searched_more}
@@ -25,9 +29,9 @@ module _ (lines : Lines) (bytes piece : List ℕ) where
     ahead = omega (arith, length-append bytes piece);
   }
 
-  pub feeds_block : (line : ReadLine) (header : Header) (body : Vec ℕ) → IsStateOf lines (state.AwaitsBlock line header body) bytes → Feeds lines (state.AwaitsBlock line header body) bytes piece (state.AwaitsBlock line header body) (bytes ++ piece)
-  feeds_block line header body is = record {
-    readings = fed_awaiting lines line body.items bytes piece;
+  pub feeds_block : (block : Box Awaited) → IsStateOf lines (state.AwaitsBlock block) bytes → Feeds lines (state.AwaitsBlock block) bytes piece (state.AwaitsBlock block) (bytes ++ piece)
+  feeds_block block is = record {
+    readings = fed_awaiting lines block.value bytes piece;
     stands = is;
     ahead = omega (arith, length-append bytes piece);
   }
@@ -90,17 +94,24 @@ module _ (lines : Lines) (s : State) (bytes : List ℕ) (fed scanned : ℕ) (is 
       counted ahead =
           ⊎_elim (λ few. inl (omega (arith, ahead, feeds.ahead, counts, few))) (λ many. inr (omega (arith, counts, many))) (cases_lt (fed + length piece) (2 ^ 64 - 1))
 
-  module _ (line : ReadLine) (header : Header) (body : Vec ℕ) (awaits : s ≡ state.AwaitsBlock line header body) where
-    stands : IsStateOf lines (state.AwaitsBlock line header body) bytes
+  module _ (block : Box Awaited) (awaits : s ≡ state.AwaitsBlock block) where
+    stands : IsAwaited lines block.value
     stands = subst (λ t. IsStateOf lines t bytes) awaits is.stands
 
-    ahead : (scanned + (length body.items + length bytes) ≤ fed) ⊎ (fed ≡ 2 ^ 64 - 1)
+    ahead : (scanned + (length block.value.body.items + length bytes) ≤ fed) ⊎ (fed ≡ 2 ^ 64 - 1)
     ahead = subst (λ t. (scanned + ahead_in t bytes ≤ fed) ⊎ (fed ≡ 2 ^ 64 - 1)) awaits is.ahead
 
     -- when bytes are moved to those of an awaited block
-    pub reader_moves : (after : Vec ℕ) (left : List ℕ) → after.items ++ left ≡ body.items ++ bytes → length after.items ≤ header.length + 2 → IsReader lines (state.AwaitsBlock line header after) left fed scanned
-    reader_moves after left same few = record {
-      stands = (stands.0, stands.1, stands.2, stands.3, few);
+    pub reader_moves : (after : Box Awaited) (left : List ℕ) → after.value.line ≡ block.value.line → after.value.header ≡ block.value.header → after.value.body.items ++ left ≡ block.value.body.items ++ bytes → length after.value.body.items ≤ after.value.header.length + 2
+        → IsReader lines (state.AwaitsBlock after) left fed scanned
+    reader_moves after left line header same few = record {
+      stands = record {
+        unbroken = subst (λ (l : ReadLine). IsUnbroken l.text) (sym line) stands.unbroken;
+        short = subst (λ (l : ReadLine). length l.text ≤ LINE_BYTES) (sym line) stands.short;
+        asked = subst (λ (l : ReadLine). lines l.text ≡ StoredBlock after.value.header) (sym line) (stands.asked ∙ ap (λ h. StoredBlock h) (sym header));
+        small = subst (λ (h : Header). h.length ≤ DATA_BYTES) (sym header) stands.small;
+        few = few;
+      };
       within = is.within;
-      ahead = ⊎_elim (λ ahead. inl (omega (arith, ahead, ap length same, length-append after.items left, length-append body.items bytes))) (λ full. inr full) ahead;
+      ahead = ⊎_elim (λ ahead. inl (omega (arith, ahead, ap length same, length-append after.value.body.items left, length-append block.value.body.items bytes))) (λ full. inr full) ahead;
     }

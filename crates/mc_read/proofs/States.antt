@@ -3,18 +3,17 @@ use Rattle.std.proofs.Common.{◌≡◌, ℕ, ◌-◌, ◌<◌, ◌≤◌, ◌�
 use Rattle.std.proofs.lemmas.Bool.{both_ways, cases_lt}
 use Rattle.std.proofs.lemmas.List.{get_or_append_left, nil_from_length}
 use Rattle.std.proofs.lemmas.List.Sums.{fails_before_first, passes_at_first, position_or_len_is}
-use Rattle.std.specs.Global.{Vec}
+use Rattle.std.specs.Global.{Box}
 use Rattle.mc_model.specs.declared.fault.Fault.{Fault}
 use Rattle.mc_model.specs.declared.reply.WireNo.{WireNo}
 use Rattle.mc_model.specs.declared.request.Request.{Request}
-use Rattle.mc_read.specs.declared.line.Header.{Header}
-use Rattle.mc_read.specs.declared.read_line.ReadLine.{ReadLine}
+use Rattle.mc_read.specs.declared.awaited.Awaited.{Awaited}
 use Rattle.mc_read.specs.declared.reader.State.{State}
 use Rattle.mc_read.specs.declared.reader.State.TheVariants as state
 use Rattle.mc_read.specs.First.{is_line_feed, line_length}
 use Rattle.mc_read.specs.Line.{refused}
 use Rattle.mc_read.specs.Reading.{Ended, Held, IsFed, Kept, ReadsOn, Swallowing}
-use Rattle.mc_read.specs.State.{IsLineAt, IsSearched, IsStateOf, awaited, held_in}
+use Rattle.mc_read.specs.State.{IsAwaited, IsLineAt, IsSearched, IsStateOf, held_in, with_line}
 use Rattle.mc_read.specs.Text.{Lines}
 use Rattle.mc_read.proofs.Awaiting.{fed_awaiting, line_awaited}
 use Rattle.mc_read.proofs.Holdings.{fed_within, reads_alike}
@@ -50,13 +49,13 @@ searched_more searched bytes piece is = record {
 module _ (lines : Lines) where
   -- a state that keeps all bytes is a state of them and a piece, or of what they were
   pub state_more : (s : State) (old piece new : List ℕ) (r : Result (Unit {0}) Fault)
-      → ((searched : ℕ) × (s ≡ state.AwaitsLine searched)) ⊎ ((line : ReadLine) × (header : Header) × (body : Vec ℕ) × (s ≡ state.AwaitsBlock line header body))
+      → ((searched : ℕ) × (s ≡ state.AwaitsLine searched)) ⊎ ((block : Box Awaited) × (s ≡ state.AwaitsBlock block))
       → IsStateOf lines s old → OnOk r (new ≡ old ++ piece) → OnErr r (new ≡ old) → IsStateOf lines s new
   state_more s old piece new (Ok u) which is more same = subst (IsStateOf lines s) (sym more) (grown which)
     where
-      grown : ((searched : ℕ) × (s ≡ state.AwaitsLine searched)) ⊎ ((line : ReadLine) × (header : Header) × (body : Vec ℕ) × (s ≡ state.AwaitsBlock line header body)) → IsStateOf lines s (old ++ piece)
+      grown : ((searched : ℕ) × (s ≡ state.AwaitsLine searched)) ⊎ ((block : Box Awaited) × (s ≡ state.AwaitsBlock block)) → IsStateOf lines s (old ++ piece)
       grown (inl line) = subst (λ t. IsStateOf lines t (old ++ piece)) (sym line.1) (searched_more line.0 old piece (subst (λ t. IsStateOf lines t old) line.1 is))
-      grown (inr block) = subst (λ t. IsStateOf lines t (old ++ piece)) (sym block.3) (subst (λ t. IsStateOf lines t old) block.3 is)
+      grown (inr block) = subst (λ t. IsStateOf lines t (old ++ piece)) (sym block.1) (subst (λ t. IsStateOf lines t old) block.1 is)
   state_more s old piece new (Err fault) which is more same = subst (IsStateOf lines s) (sym same) is
 
   -- a piece within a refused block, also where none of the block is still to come
@@ -72,23 +71,22 @@ module _ (lines : Lines) where
       (cases_lt 0 left)
 
   -- a piece comes while a block is awaited
-  pub fed_awaited : (s : State) (line : ReadLine) (header : Header) (body : Vec ℕ) (old piece new : List ℕ) (r : Result (Unit {0}) Fault) → s ≡ state.AwaitsBlock line header body → OnOk r (new ≡ old ++ piece) → OnOk r (IsFed lines (held_in s old) piece (held_in s new))
-  fed_awaited s line header body old piece new (Ok u) is more =
-      subst (λ t. IsFed lines (held_in t old) piece (held_in t new)) (sym is) (subst (λ b. IsFed lines (Kept (awaited line body.items old)) piece (Kept (awaited line body.items b))) (sym more) (fed_awaiting lines line body.items old piece))
-  fed_awaited s line header body old piece new (Err fault) is more = tt
+  pub fed_awaited : (s : State) (block : Box Awaited) (old piece new : List ℕ) (r : Result (Unit {0}) Fault) → s ≡ state.AwaitsBlock block → OnOk r (new ≡ old ++ piece) → OnOk r (IsFed lines (held_in s old) piece (held_in s new))
+  fed_awaited s block old piece new (Ok u) is more =
+      subst (λ t. IsFed lines (held_in t old) piece (held_in t new)) (sym is) (subst (λ b. IsFed lines (Kept (with_line block.value old)) piece (Kept (with_line block.value b))) (sym more) (fed_awaiting lines block.value old piece))
+  fed_awaited s block old piece new (Err fault) is more = tt
 
   -- while a block is awaited, its line stands at the front of what is held
-  pub line_of_block : (s : State) (inside : List ℕ) (line : ReadLine) (header : Header) (body : Vec ℕ) (bytes : List ℕ) → s ≡ state.AwaitsBlock line header body → IsStateOf lines s inside → held_in s inside ≡ Kept bytes → IsLineAt bytes (length line.text)
-  line_of_block s inside line header body bytes is_block is held =
-      let is_state : IsStateOf lines (state.AwaitsBlock line header body) inside = subst (λ t. IsStateOf lines t inside) is_block is in
-      let kept : Kept (awaited line body.items inside) ≡ Kept bytes = ap (λ t. held_in t inside) (sym is_block) ∙ held in
-      let same : awaited line body.items inside ≡ bytes = cc in
-      subst (λ b. IsLineAt b (length line.text)) same (line_awaited line body.items inside is_state.0 is_state.1)
+  pub line_of_block : (s : State) (inside : List ℕ) (block : Box Awaited) (bytes : List ℕ) → s ≡ state.AwaitsBlock block → IsStateOf lines s inside → held_in s inside ≡ Kept bytes → IsLineAt bytes (length block.value.line.text)
+  line_of_block s inside block bytes is_block is held =
+      let awaits : IsAwaited lines block.value = subst (λ t. IsStateOf lines t inside) is_block is in
+      let kept : Kept (with_line block.value inside) ≡ Kept bytes = ap (λ t. held_in t inside) (sym is_block) ∙ held in
+      let same : with_line block.value inside ≡ bytes = cc in
+      subst (λ b. IsLineAt b (length block.value.line.text)) same (line_awaited lines block.value awaits inside)
 
-pub fed_awaited_all : (s : State) (line : ReadLine) (header : Header) (body : Vec ℕ) (old piece new : List ℕ) (r : Result (Unit {0}) Fault) → s ≡ state.AwaitsBlock line header body → OnOk r (new ≡ old ++ piece)
-    → OnOk r ((lines : Lines) → IsStateOf lines s old → IsFed lines (held_in s old) piece (held_in s new))
-fed_awaited_all s line header body old piece new (Ok u) is more = λ lines _. fed_awaited lines s line header body old piece new (Ok u) is more
-fed_awaited_all s line header body old piece new (Err fault) is more = tt
+pub fed_awaited_all : (s : State) (block : Box Awaited) (old piece new : List ℕ) (r : Result (Unit {0}) Fault) → s ≡ state.AwaitsBlock block → OnOk r (new ≡ old ++ piece) → OnOk r ((lines : Lines) → IsStateOf lines s old → IsFed lines (held_in s old) piece (held_in s new))
+fed_awaited_all s block old piece new (Ok u) is more = λ lines _. fed_awaited lines s block old piece new (Ok u) is more
+fed_awaited_all s block old piece new (Err fault) is more = tt
 
 -- A refused block that has come whole, and one of which a piece comes.
 pub left_of_block : (refusal other : WireNo) (quiet noreply : Bool) (left more : ℕ) → state.SwallowsBlock refusal quiet left ≡ state.SwallowsBlock other noreply more → left ≡ more

@@ -7,7 +7,7 @@ use Rattle.mc_model.specs.declared.reply.WireNo.{WireNo}
 use Rattle.mc_model.specs.declared.request.Request.{Request}
 use Rattle.mc_read.specs.declared.line.Asked.TheVariants.{RefusedBlock, StoredBlock}
 use Rattle.mc_read.specs.declared.line.TheConstants.{LINE_BYTES}
-use Rattle.mc_read.specs.declared.read_line.ReadLine.{ReadLine}
+use Rattle.mc_read.specs.declared.awaited.Awaited.{Awaited}
 use Rattle.mc_read.specs.declared.reader.State.{State}
 use Rattle.mc_read.specs.declared.reader.State.TheVariants as state
 use Rattle.mc_read.specs.declared.reader.Sought.{Sought}
@@ -18,13 +18,13 @@ use Rattle.mc_read.specs.Text.{IsUnbroken, Lines, ends_well}
 use Rattle.mc_read.specs.Reading.{Ended, HasNone, Held, IsFed, IsNext, Kept, ReadAlike, Swallowing, ends_stream}
 
 -- a line that was read, what has arrived of its block, and what stands behind that
-abbrev pub awaited : ReadLine → List ℕ → List ℕ → List ℕ
-awaited line body bytes = line.text ++ 10 ∷ (body ++ bytes)
+abbrev pub with_line : Awaited → List ℕ → List ℕ
+with_line block bytes = block.line.text ++ 10 ∷ (block.body.items ++ bytes)
 
 -- what is held in this state with these bytes
 abbrev pub held_in : State → List ℕ → Held
 held_in (state.AwaitsLine searched) bytes = Kept bytes
-held_in (state.AwaitsBlock line header body) bytes = Kept (awaited line body.items bytes)
+held_in (state.AwaitsBlock block) bytes = Kept (with_line block.value bytes)
 held_in (state.SwallowsBlock refusal quiet left) bytes =
     Swallowing (refused refusal quiet) left bytes
 held_in state.Ended bytes = Ended
@@ -40,13 +40,18 @@ pub record IsSearched (searched : ℕ) (bytes : List ℕ) : Type 0 where
   pub in_vain : searched ≤ line_length bytes
   pub few : searched ≤ LINE_BYTES
 
+-- what is true of a block that is awaited
+pub record IsAwaited (lines : Lines) (block : Awaited) : Type 0 where
+  pub unbroken : IsUnbroken block.line.text
+  pub short : length block.line.text ≤ LINE_BYTES
+  pub asked : lines block.line.text ≡ StoredBlock block.header
+  pub small : block.header.length ≤ DATA_BYTES
+  pub few : length block.body.items ≤ block.header.length + 2
+
 -- what a state says of the bytes
 abbrev pub IsStateOf : Lines → State → List ℕ → Type 0
 IsStateOf lines (state.AwaitsLine searched) bytes = IsSearched searched bytes
-IsStateOf lines (state.AwaitsBlock line header body) bytes =
-    IsUnbroken line.text × (length line.text ≤ LINE_BYTES)
-    × (lines line.text ≡ StoredBlock header) × (header.length ≤ DATA_BYTES)
-    × (length body.items ≤ header.length + 2)
+IsStateOf lines (state.AwaitsBlock block) bytes = IsAwaited lines block.value
 IsStateOf lines (state.SwallowsBlock refusal quiet left) bytes = 0 < left → bytes ≡ []
 IsStateOf lines state.Ended bytes = bytes ≡ []
 
@@ -122,7 +127,7 @@ line_reach bytes = min (min (line_length bytes + 1) (length bytes)) (LINE_BYTES 
 -- in how many bytes at the front the end of the first line was searched
 abbrev pub searched_in : State → ℕ
 searched_in (state.AwaitsLine searched) = searched
-searched_in (state.AwaitsBlock line header body) = length line.text + 1
+searched_in (state.AwaitsBlock block) = length block.value.line.text + 1
 searched_in (state.SwallowsBlock refusal quiet left) = 0
 searched_in state.Ended = 0
 
@@ -140,7 +145,7 @@ IsAllSearched (Some request) held searched = searched ≡ 0
 -- how many bytes are held in which no line end was searched yet
 abbrev pub ahead_in : State → List ℕ → ℕ
 ahead_in (state.AwaitsLine searched) bytes = length bytes - searched
-ahead_in (state.AwaitsBlock line header body) bytes = length body.items + length bytes
+ahead_in (state.AwaitsBlock block) bytes = length block.value.body.items + length bytes
 ahead_in (state.SwallowsBlock refusal quiet left) bytes = length bytes
 ahead_in state.Ended bytes = 0
 

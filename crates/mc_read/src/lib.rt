@@ -8,11 +8,11 @@
 pub use reader::{Reader, ends_stream};
 pub use speaker::Speaker;
 
+mod awaited;
 mod block;
 mod buffer;
 pub mod laws;
 mod line;
-mod read_line;
 mod reader;
 mod source;
 mod speaker;

@@ -10,8 +10,8 @@ ghost use Rattle.mc_read.specs.Reading.{ends_stream, Ended, IsFed, Kept, Swallow
 ghost use Rattle.mc_read.specs.State.{EndsInRefusal, Feeds, IsAllSearched, IsNextAnswer, IsLineAt, IsSearched, IsStateOf, ahead_in, held_in, line_reach, searched_in, state_past, to_search};
 ghost use Rattle.mc_read.specs.Text.{IsTooLongText, IsUnended, Lines, stored_if};
 
+use crate::awaited::Awaited;
 use crate::line::{Asked, BLOCK_LENGTH, Header, LINE_BYTES, refused};
-use crate::read_line::ReadLine;
 use crate::source::Source;
 use crate::speaker::Speaker;
 use bytes::Bytes;
@@ -28,13 +28,8 @@ enum State {
     AwaitsLine {
         searched: usize,
     },
-    /// Its line was read, and its block is awaited, with the two bytes after it: `body` has room
-    /// for these, and what has come of them.
-    AwaitsBlock {
-        line: ReadLine,
-        header: Header,
-        body: Vec<u8>,
-    },
+    /// Its line was read, and its block is awaited.
+    AwaitsBlock(Box<Awaited>),
     /// Its block is refused; `left` bytes of it and of the two after it are still to come.
     SwallowsBlock {
         refusal: WireNo,
@@ -167,8 +162,8 @@ fn read_asked(
                     Ok((Some(request), State::AwaitsLine { searched: 0 }))
                 }
                 None => {
-                    let (line, body) = buffer.begin_block(alloc, line, size)?;
-                    Ok((None, State::AwaitsBlock { line, header, body }))
+                    let awaited = buffer.begin_block(alloc, line, header)?;
+                    Ok((None, State::AwaitsBlock(awaited)))
                 }
             }
         }
@@ -277,7 +272,7 @@ fn take_piece(state: &mut State, buffer: &mut Source, piece: Bytes) -> Result<()
 {
     match state {
         State::AwaitsLine { .. } => buffer.append(piece),
-        State::AwaitsBlock { .. } => buffer.append(piece),
+        State::AwaitsBlock(_) => buffer.append(piece),
         State::SwallowsBlock { left, .. } => {
             let count = piece.len() as u64;
             if count <= *left {
@@ -316,7 +311,7 @@ fn take_slice(state: &mut State, buffer: &mut Source, piece: &[u8]) -> Result<()
 {
     match state {
         State::AwaitsLine { .. } => buffer.extend(piece),
-        State::AwaitsBlock { .. } => buffer.extend(piece),
+        State::AwaitsBlock(_) => buffer.extend(piece),
         State::SwallowsBlock { left, .. } => {
             let length = piece.len() as u64;
             if length <= *left {
@@ -340,7 +335,7 @@ fn drop_unread(state: &mut State, buffer: &mut Source)
 {
     match state {
         State::AwaitsLine { .. } => {}
-        State::AwaitsBlock { .. } => {}
+        State::AwaitsBlock(_) => {}
         State::SwallowsBlock { left, .. } => {
             let count = (*left).min(buffer.len() as u64);
             buffer.advance(count as usize);
@@ -436,7 +431,7 @@ impl Reader {
     {
         match &self.state {
             State::AwaitsLine { .. } => false,
-            State::AwaitsBlock { .. } => false,
+            State::AwaitsBlock(_) => false,
             State::SwallowsBlock { .. } => false,
             State::Ended => true,
         }
@@ -571,14 +566,16 @@ impl Reader {
                 self.scanned = self.scanned.saturating_add(count as u64);
                 Ok(request)
             }
-            State::AwaitsBlock { header, body, .. } => {
-                let size = header.length as usize;
-                let taken = self.buffer.finish_block(body, size)?;
+            State::AwaitsBlock(awaited) => {
+                let taken = self.buffer.finish_block(awaited)?;
                 let Some((block, ends_well)) = taken else {
                     return Ok(None);
                 };
                 match mem::replace(&mut self.state, State::AwaitsLine { searched: 0 }) {
-                    State::AwaitsBlock { header, .. } => Ok(Some(stored(header, block, ends_well))),
+                    State::AwaitsBlock(awaited) => {
+                        let Awaited { header, .. } = Box::into_inner(awaited);
+                        Ok(Some(stored(header, block, ends_well)))
+                    }
                     _ => unreachable!(),
                 }
             }

@@ -8,10 +8,10 @@ ghost use Rattle.mc_read.specs.Pulling.{PullsBehind};
 ghost use Rattle.mc_read.specs.State.{IsFinished, IsLineAt, IsSearched, IsSought, IsTaken};
 ghost use Rattle.mc_read.specs.Text.{ends_well};
 
+use crate::awaited::{Awaited, ReadLine};
 use crate::block::{copy_block, share_block, whole_block};
 use crate::buffer::Buffer;
-use crate::line::{Asked, LINE_BYTES};
-use crate::read_line::ReadLine;
+use crate::line::{Asked, Header, LINE_BYTES};
 use crate::reader::Sought;
 use crate::speaker::Speaker;
 use bytes::Bytes;
@@ -345,18 +345,21 @@ impl Source {
     }
 
     /// Removes a line and all that stands behind it, which is less than its block and the two bytes
-    /// after it. Returns the line, and the rest in memory that has room for these. Returns `Memory`
-    /// if an allocation fails; nothing is removed then.
+    /// after it, and returns the block as one that is awaited. Returns `Memory` if an allocation
+    /// fails; nothing is removed then.
     pub fn begin_block(
         &mut self,
         alloc: Global,
         line: usize,
-        size: usize,
-    ) -> Result<(ReadLine, Vec<u8>), Fault>
+        header: Header,
+    ) -> Result<Box<Awaited>, Fault>
         requires line { IsLineAt self.old line }
-        requires small { size ≤ DATA_BYTES }
-        ensures line { IfOk result (λ begun. begun.0.text ≡ take line self.old) }
-        ensures body { IfOk result (λ begun. begun.1.items ≡ drop (line + 1) self.old) }
+        requires small { header.length ≤ DATA_BYTES }
+        ensures line { IfOk result
+            (λ awaited. awaited.value.line.text ≡ take line self.old) }
+        ensures header { IfOk result (λ awaited. awaited.value.header ≡ header) }
+        ensures body { IfOk result
+            (λ awaited. awaited.value.body.items ≡ drop (line + 1) self.old) }
         ensures none { OnOk result (self.new ≡ []) }
         ensures memory { IsOkUnless result Fault.Memory }
         ensures unchanged { OnErr result (self.new ≡ self.old) }
@@ -364,38 +367,44 @@ impl Source {
         gather(&mut self.rest, &mut self.piece, line + 1)?;
         let (rest, piece) = (self.rest.as_slice(), self.piece.as_slice());
         let read = ReadLine::of(&front(rest, piece, line + 1)[..line]);
-        let mut body = Vec::with_capacity(alloc, size + 2)?;
+        let mut body = Vec::with_capacity(alloc, header.length as usize + 2)?;
         let start = (line + 1).min(rest.len());
         body.extend_from_slice(&rest[start..])?;
         body.extend_from_slice(&piece[line + 1 - start..])?;
+        let awaited = Awaited {
+            line: read,
+            header,
+            body,
+        };
+        let awaited = Box::new(alloc, awaited)?;
         self.clear();
-        Ok((read, body))
+        Ok(awaited)
     }
 
-    /// Moves bytes from the front to those of a block, and returns the block once it is whole, with
-    /// whether the two bytes after it are a line end. Returns `Memory` if an allocation fails;
-    /// nothing is removed then.
-    pub fn finish_block(
-        &mut self,
-        body: &mut Vec<u8>,
-        size: usize,
-    ) -> Result<Option<(Data, bool)>, Fault>
-        requires small { size ≤ DATA_BYTES }
-        requires few { length body.old.items ≤ size + 2 }
+    /// Moves bytes from the front to those of an awaited block, and returns the block once it is
+    /// whole, with whether the two bytes after it are a line end. Returns `Memory` if an allocation
+    /// fails; nothing is removed then.
+    pub fn finish_block(&mut self, awaited: &mut Awaited) -> Result<Option<(Data, bool)>, Fault>
+        requires small { awaited.old.header.length ≤ DATA_BYTES }
+        requires few { length awaited.old.body.items ≤ awaited.old.header.length + 2 }
         ensures finished { IfOk result (λ taken.
-            IsFinished size (body.old.items ++ self.old) taken (body.new.items ++ self.new)) }
+            IsFinished awaited.old.header.length (awaited.old.body.items ++ self.old) taken
+            (awaited.new.body.items ++ self.new)) }
         ensures none { IfOk result
-            (λ taken. IfSome taken (λ _. body.new.items ≡ [])) }
-        ensures few { length body.new.items ≤ size + 2 }
+            (λ taken. IfSome taken (λ _. awaited.new.body.items ≡ [])) }
+        ensures few { length awaited.new.body.items ≤ awaited.new.header.length + 2 }
+        ensures same { (awaited.new.line ≡ awaited.old.line)
+            × (awaited.new.header ≡ awaited.old.header) }
         ensures memory { IsOkUnless result Fault.Memory }
         ensures unchanged { OnErr result
-            (body.new.items ++ self.new ≡ body.old.items ++ self.old) }
+            (awaited.new.body.items ++ self.new ≡ awaited.old.body.items ++ self.old) }
     {
-        self.move_to(body, size + 2)?;
-        if body.len() < size + 2 {
+        let size = awaited.header.length as usize;
+        self.move_to(&mut awaited.body, size + 2)?;
+        if awaited.body.len() < size + 2 {
             return Ok(None);
         }
-        Ok(Some(whole_block(body, size)?))
+        Ok(Some(whole_block(&mut awaited.body, size)?))
     }
 
     /// Moves bytes from the front to the end of a block's, until these are `most`. Returns `Memory`

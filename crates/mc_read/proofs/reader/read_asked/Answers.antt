@@ -1,16 +1,17 @@
-use Rattle.std.proofs.Common.{◌≡◌, ℕ, ◌+◌, ◌≤◌, List, [], Some, None, length, length-drop, length-take, take, drop, sym, ◌∙◌, ap, refl, subst, add-zero, arith}
+use Rattle.std.proofs.Common.{◌≡◌, ℕ, ◌+◌, ◌≤◌, List, [], Some, None, length, take, drop, sym, ◌∙◌, ap, refl, subst, add-zero, arith}
 use Rattle.std.proofs.lemmas.List.{drop_all}
 use Rattle.mc_read.specs.declared.line.Asked.TheVariants.{LineOnly, RefusedBlock, StoredBlock}
 use Rattle.mc_read.specs.Administering.{lines_spoken}
 use Rattle.mc_read.specs.Line.{refused}
 use Rattle.mc_read.specs.Reading.{Kept, Swallowing}
-use Rattle.mc_read.specs.State.{IsNextAnswer, IsStateOf, IsTaken, awaited, held_in}
-use Rattle.mc_read.specs.Text.{IsUnbroken, Lines}
+use Rattle.mc_read.specs.State.{IsAwaited, IsNextAnswer, IsTaken, held_in, with_line}
+use Rattle.mc_read.specs.Text.{Lines}
 use Rattle.mc_read.specs.declared.line.Header.{Header}
-use Rattle.mc_read.specs.declared.reader.State.TheVariants as state
-use Rattle.mc_read.proofs.Awaiting.{begun_awaits}
+use Rattle.mc_read.specs.declared.awaited.Awaited.{Awaited}
+use Rattle.mc_model.specs.declared.item.TheConstants.{DATA_BYTES}
+use Rattle.mc_read.proofs.Awaiting.{begun_awaits, begun_holds, none_to_search}
 use Rattle.mc_read.proofs.Holdings.{held_after}
-use Rattle.mc_read.proofs.Steps.{answer_awaited, answer_swallowing, answer_taken, answer_whole, held_in_state_after, unbroken_line}
+use Rattle.mc_read.proofs.Steps.{answer_awaited, answer_swallowing, answer_taken, answer_whole, held_in_state_after}
 use Rattle.mc_read.proofs.reader.read_asked.Goals as goal
 
 pub returns-in-LineOnly-clause-answer : goal.returns-in-LineOnly-clause-answer
@@ -50,52 +51,48 @@ returns-in-Some-clause-answer c =
     rw c.stored-request.ensures (answer_taken (lines_spoken c.args.speaker) bytes c.args.line c.requires.line c.in-StoredBlock.header is_asked (c.in-Some.block, c.in-Some.ends_well) c.take_block.new.self (rw c.in-Some.is at c.in_ok-block-in-StoredBlock.ensures.taken))
 
 -- A part of the block is still to come: the line is read, and the block begun.
-module _ (c : goal.In_ok-line-in-None) where
+module _ (c : goal.In_ok-awaited-in-None) where
   abbrev lines : Lines
   lines = lines_spoken c.args.speaker
 
   abbrev bytes : List ℕ
   bytes = c.args.buffer.now
 
-  abbrev header : Header
-  header = c.in-StoredBlock.header
-
-  asked : lines (take c.args.line bytes) ≡ StoredBlock header
-  asked = sym c.requires.asked ∙ c.in-StoredBlock.is
+  abbrev block : Awaited
+  block = c.in_ok-awaited-in-None.awaited.value
 
   -- nothing was taken
-  part : IsTaken bytes c.args.line header.length None c.take_block.new.self
+  part : IsTaken bytes c.args.line c.in-StoredBlock.header.length None c.take_block.new.self
   part = rw c.in-None.is at c.in_ok-block-in-StoredBlock.ensures.taken
 
-  text : c.in_ok-line-in-None.line.text ≡ take c.args.line bytes
-  text = c.in_ok-line-in-None.ensures.line ∙ ap (λ b. take c.args.line b) part.1
+  text : block.line.text ≡ take c.args.line bytes
+  text = c.in_ok-awaited-in-None.ensures.line ∙ ap (λ b. take c.args.line b) part.1
 
-  rest : c.in_ok-line-in-None.body.items ≡ drop (c.args.line + 1) bytes
-  rest = c.in_ok-line-in-None.ensures.body ∙ ap (λ b. drop (c.args.line + 1) b) part.1
+  rest : block.body.items ≡ drop (c.args.line + 1) bytes
+  rest = c.in_ok-awaited-in-None.ensures.body ∙ ap (λ b. drop (c.args.line + 1) b) part.1
 
-  many : length c.in_ok-line-in-None.line.text ≡ c.args.line
-  many = ap length text ∙ omega (arith, length-take c.args.line bytes, c.requires.line.ends)
+  header : block.header ≡ c.in-StoredBlock.header
+  header = c.in_ok-awaited-in-None.ensures.header
 
-  same : awaited c.in_ok-line-in-None.line c.in_ok-line-in-None.body.items c.begin_block.new.self ≡ bytes
-  same = ap (awaited c.in_ok-line-in-None.line c.in_ok-line-in-None.body.items) c.in_ok-line-in-None.ensures.none ∙ begun_awaits bytes c.args.line c.in_ok-line-in-None.line c.in_ok-line-in-None.body.items c.requires.line text rest
+  asked : lines (take c.args.line bytes) ≡ StoredBlock c.in-StoredBlock.header
+  asked = sym c.requires.asked ∙ c.in-StoredBlock.is
 
-  awaits : IsNextAnswer lines (Kept bytes) None (Kept (awaited c.in_ok-line-in-None.line c.in_ok-line-in-None.body.items c.begin_block.new.self))
-  awaits = answer_awaited lines bytes c.args.line c.requires.line header asked (rw c.in-StoredBlock.is at c.requires.lawful) (awaited c.in_ok-line-in-None.line c.in_ok-line-in-None.body.items c.begin_block.new.self) (part.0, same)
+  holds : with_line block c.begin_block.new.self ≡ bytes
+  holds = ap (λ left. with_line block left) c.in_ok-awaited-in-None.ensures.none ∙ begun_holds lines bytes c.args.line block c.requires.line text rest
 
-  stands : IsStateOf lines (state.AwaitsBlock c.in_ok-line-in-None.line header c.in_ok-line-in-None.body) c.begin_block.new.self
-  stands = (
-    subst IsUnbroken (sym text) (unbroken_line bytes c.args.line c.requires.line),
-    omega (arith, many, c.requires.line.short),
-    ap lines text ∙ asked,
-    rw c.in-StoredBlock.is at c.requires.lawful,
-    omega (arith, ap length rest, length-drop (c.args.line + 1) bytes, part.0),
-  )
+  answers : IsNextAnswer lines (Kept bytes) None (Kept (with_line block c.begin_block.new.self))
+  answers = answer_awaited lines bytes c.args.line c.requires.line c.in-StoredBlock.header asked (rw c.in-StoredBlock.is at c.requires.lawful) (with_line block c.begin_block.new.self) (part.0, holds)
 
-pub returns-in_ok-line-in-None-clause-answer : goal.returns-in_ok-line-in-None-clause-answer
-returns-in_ok-line-in-None-clause-answer c = awaits c
+  awaits : IsAwaited lines block
+  awaits =
+      begun_awaits lines bytes c.args.line block c.requires.line text rest (asked ∙ ap (λ h. StoredBlock h) (sym header)) (subst (λ (h : Header). h.length ≤ DATA_BYTES) (sym header) (rw c.in-StoredBlock.is at c.requires.lawful)) c.take_block.new.self
+      (subst (λ (h : Header). IsTaken bytes c.args.line h.length None c.take_block.new.self) (sym header) part)
 
-pub returns-in_ok-line-in-None-clause-state : goal.returns-in_ok-line-in-None-clause-state
-returns-in_ok-line-in-None-clause-state c = stands c
+pub returns-in_ok-awaited-in-None-clause-answer : goal.returns-in_ok-awaited-in-None-clause-answer
+returns-in_ok-awaited-in-None-clause-answer c = answers c
 
-pub returns-in_ok-line-in-None-clause-all : goal.returns-in_ok-line-in-None-clause-all
-returns-in_ok-line-in-None-clause-all c = rw (same c) (omega (arith, many c, c.requires.line.is_length))
+pub returns-in_ok-awaited-in-None-clause-state : goal.returns-in_ok-awaited-in-None-clause-state
+returns-in_ok-awaited-in-None-clause-state c = awaits c
+
+pub returns-in_ok-awaited-in-None-clause-all : goal.returns-in_ok-awaited-in-None-clause-all
+returns-in_ok-awaited-in-None-clause-all c = none_to_search (lines c) (block c) (awaits c) c.begin_block.new.self

@@ -22,9 +22,9 @@ returns-in-AwaitsLine-clause-state c = λ lines is.
 
 pub returns-in-AwaitsBlock-clause-state : goal.returns-in-AwaitsBlock-clause-state
 returns-in-AwaitsBlock-clause-state c = λ lines is.
-    state_more lines c.args.state.now c.args.buffer.now c.args.piece _ c.append-in-AwaitsBlock.result (inr (_, _, _, c.in-AwaitsBlock.is)) is c.append-in-AwaitsBlock.ensures.bytes c.append-in-AwaitsBlock.ensures.unchanged
+    state_more lines c.args.state.now c.args.buffer.now c.args.piece _ c.append-in-AwaitsBlock.result (inr (_, c.in-AwaitsBlock.is)) is c.append-in-AwaitsBlock.ensures.bytes c.append-in-AwaitsBlock.ensures.unchanged
 
 pub returns-in-AwaitsBlock-clause-readings : goal.returns-in-AwaitsBlock-clause-readings
 returns-in-AwaitsBlock-clause-readings c =
     let block = c.in-AwaitsBlock in
-    fed_awaited_all c.args.state.now block.line block.header block.body c.args.buffer.now c.args.piece c.append-in-AwaitsBlock.new.self c.append-in-AwaitsBlock.result block.is c.append-in-AwaitsBlock.ensures.bytes
+    fed_awaited_all c.args.state.now block.field-0 c.args.buffer.now c.args.piece c.append-in-AwaitsBlock.new.self c.append-in-AwaitsBlock.result block.is c.append-in-AwaitsBlock.ensures.bytes

@@ -20,4 +20,4 @@ returns-in-AwaitsLine-clause-state c = λ lines is.
 
 pub returns-in-AwaitsBlock-clause-state : goal.returns-in-AwaitsBlock-clause-state
 returns-in-AwaitsBlock-clause-state c = λ lines is.
-    state_more lines c.args.state.now c.args.buffer.now c.args.piece.now _ c.extend-in-AwaitsBlock.result (inr (_, _, _, c.in-AwaitsBlock.is)) is c.extend-in-AwaitsBlock.ensures.bytes c.extend-in-AwaitsBlock.ensures.unchanged
+    state_more lines c.args.state.now c.args.buffer.now c.args.piece.now _ c.extend-in-AwaitsBlock.result (inr (_, c.in-AwaitsBlock.is)) is c.extend-in-AwaitsBlock.ensures.bytes c.extend-in-AwaitsBlock.ensures.unchanged

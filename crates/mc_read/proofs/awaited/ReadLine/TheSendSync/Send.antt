@@ -1,6 +1,6 @@
 -- A line for contracts only owns nothing, so it may go to another thread.
 use denote.Param.Send.{IsSend, owning_send}
-use Rattle.mc_read.specs.contracts.read_line.ReadLine.{the_row, the_type}
+use Rattle.mc_read.specs.contracts.awaited.ReadLine.{the_row, the_type}
 
 pub send : IsSend the_row
 send = owning_send the_type tt (λ d. tt) (λ k x w. tt)

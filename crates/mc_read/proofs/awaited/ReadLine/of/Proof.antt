@@ -27,12 +27,12 @@ use denote.Triple.Entry.{on_entry}
 use denote.Triple.Spec.{Meets, triple_of}
 use denote.Triple.Table.{entered}
 use denote.Triple.Walked.{says, Stays, stay_none_slice, walk_of, AllGo, Goes-none_slice, Walks, ends_at, walked, walk_Meets}
-use Rattle.mc_read.specs.declared.read_line.ReadLine.{ReadLine}
-use Rattle.mc_read.specs.contracts.read_line.ReadLine as line
-use Rattle.mc_read.specs.contracts.read_line.ReadLine.of as f
-use Rattle.mc_read.specs.contracts.read_line.ReadLine.of.Key.{name as key}
-use Rattle.mc_read.proofs.read_line.ReadLine.of.Statement as stated
-use Rattle.mc_read.proofs.read_line.ReadLine.of.Code as code
+use Rattle.mc_read.specs.declared.awaited.ReadLine.{ReadLine}
+use Rattle.mc_read.specs.contracts.awaited.ReadLine as line
+use Rattle.mc_read.specs.contracts.awaited.ReadLine.of as f
+use Rattle.mc_read.specs.contracts.awaited.ReadLine.of.Key.{name as key}
+use Rattle.mc_read.proofs.awaited.ReadLine.of.Statement as stated
+use Rattle.mc_read.proofs.awaited.ReadLine.of.Code as code
 
 abbrev Arg : Type 0
 Arg = Bor (List ℕ) × Unit {0}
