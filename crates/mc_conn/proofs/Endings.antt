@@ -97,14 +97,18 @@ pulls_late a between z first none within left event pull short same = inr (
   },
 )
 
+-- a pull after a push, unless memory ran out before it
 pub pulls_once : (a between z : Scene) → Takes a between → between.streams.input ≡ a.streams.input → HoldsNone (holding_of between.conn) → length (queue_of between.conn) ≤ QUEUE_BYTES →
     (queue_of between.conn ≡ []) × (between.conn.is_over ≡ false) ⊎ (waits between.streams.output.events ≡ waits a.streams.output.events + 1) →
-    (event : Event) → z.streams.input.events ≡ event ∷ between.streams.input.events → length (last_moved z.streams.input.events) ≤ PULL_BYTES →
-    z.streams.output ≡ between.streams.output → Pulls a z
-pulls_once a between z first before none within left event pull short same = record {
-  once = inr (event, pull ∙ ap (λ (input : Inflow). event ∷ input.events) before, short);
-  late = pulls_late a between z first none within left event pull short same;
-}
+    PullsOnce between.streams.input z.streams.input → z.streams.output ≡ between.streams.output → Pulls a z
+pulls_once a between z first before none within left once same =
+    ⊎_elim
+    (λ (still : z.streams.input ≡ between.streams.input). record { once = inl (still ∙ before); late = inl (still ∙ before) })
+    (λ (pulled : (event : Event) × (z.streams.input.events ≡ event ∷ between.streams.input.events) × (length (last_moved z.streams.input.events) ≤ PULL_BYTES)). record {
+      once = inr (pulled.0, pulled.1 ∙ ap (λ (input : Inflow). pulled.0 ∷ input.events) before, pulled.2);
+      late = pulls_late a between z first none within left pulled.0 pulled.1 pulled.2 same;
+    })
+    once
 
 -- more is sent after the last pull
 late_more : (a n z : Scene) → PullsLate a n → z.streams.input ≡ n.streams.input → (more : List ℕ) → Pushes n.streams.output z.streams.output more →

@@ -16,7 +16,7 @@ use std::alloc::Global;
 /// A request is taken, and bytes are pulled, only while at most this many bytes are queued.
 pub const QUEUE_BYTES: usize = 1_048_576;
 
-/// How many bytes a pull asks for.
+/// How many bytes a pull asks for at most.
 pub const PULL_BYTES: usize = 16_384;
 
 /// Who sends the requests of a connection.

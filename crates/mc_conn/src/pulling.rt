@@ -1,10 +1,10 @@
 //! Pulling bytes.
-ghost use Rattle.std.specs.Prelude.{◌≡◌, ◌⊎◌, ◌+◌, ◌<◌, ◌≤◌, ◌∷◌, [], Bool, true, false, length, None, IfOk, MatchResult, OnOk};
-ghost use Rattle.mc_stream.specs.Event.{Event, last_moved, waits};
+ghost use Rattle.std.specs.Prelude.{◌≡◌, ◌⊎◌, ◌+◌, ◌<◌, [], Bool, true, false, length, None, IfOk, MatchResult, OnOk};
+ghost use Rattle.mc_stream.specs.Event.{waits};
 ghost use Rattle.mc_stream.specs.Stream.{Outflow, both};
 ghost use Rattle.uc_worker.specs.declared.worker.Worker.{Worker};
-ghost use Rattle.mc_conn.specs.declared.conn.TheConstants.{PULL_BYTES, QUEUE_BYTES};
-ghost use Rattle.mc_conn.specs.Ending.{Breaks, Pulls};
+ghost use Rattle.mc_conn.specs.declared.conn.TheConstants.{QUEUE_BYTES};
+ghost use Rattle.mc_conn.specs.Ending.{Breaks, Pulls, PullsOnce};
 ghost use Rattle.mc_conn.specs.Parts.{Does, IsHeldBehind, IsLeft};
 ghost use Rattle.mc_conn.specs.Owed.{FitsLog};
 ghost use Rattle.mc_conn.specs.Tallying.{HasCounted};
@@ -17,14 +17,11 @@ use mc_stream::{Input, Output, Pull};
 use uc_worker::{Gate, Worker};
 
 impl Conn {
-    /// Pulls once. Returns whether bytes came.
+    /// Pulls once, at most `most` bytes and no more than `PULL_BYTES`. Returns whether bytes came.
     ///
-    /// Returns `Memory` if memory runs out, and `Input` if the input fails.
-    fn pull<I: Input>(
-        &mut self,
-        input: &mut I,
-        buffer: &mut [u8; PULL_BYTES],
-    ) -> Result<bool, Fault>
+    /// Returns `Memory` if memory runs out; nothing is pulled then. Returns `Input` if the input
+    /// fails.
+    fn pull<I: Input>(&mut self, input: &mut I, most: usize) -> Result<bool, Fault>
         requires waiting { self.old.waiting ≡ None }
         requires going { self.old.has_ended ≡ false }
         ensures outcome { MatchResult result
@@ -37,17 +34,12 @@ impl Conn {
         ensures stuck { IfOk result (λ did. did ≡ false →
             (waits (I.tells input.new).events ≡ waits (I.tells input.old).events + 1)
             ⊎ (self.new.has_ended ≡ true)) }
-        ensures once { (event : Event)
-            × ((I.tells input.new).events ≡ event ∷ (I.tells input.old).events) }
-        ensures short { length (last_moved (I.tells input.new).events) ≤ PULL_BYTES }
+        ensures once { PullsOnce (I.tells input.old) (I.tells input.new) }
         ensures role { self.new.role ≡ self.old.role }
         ensures past { self.new.past ≡ self.old.past }
     {
-        match input.pull(buffer) {
-            Pull::Bytes(count) => {
-                self.reader.feed(&buffer[..count])?;
-                Ok(true)
-            }
+        match self.reader.pull(input, most.clamp(1, PULL_BYTES))? {
+            Pull::Bytes(_) => Ok(true),
             Pull::Empty => Ok(false),
             Pull::Ended => {
                 self.has_ended = true;
@@ -69,7 +61,7 @@ impl Conn {
         input: &mut I,
         output: &mut O,
         gate: &mut G,
-        buffer: &mut [u8; PULL_BYTES],
+        most: usize,
         tally: &mut Tally,
     ) -> Result<bool, Fault>
         requires role { FitsLog self.old.role worker.old }
@@ -100,7 +92,7 @@ impl Conn {
         if self.is_over & self.queue.is_empty() {
             return Ok(pushed);
         }
-        let pulled = self.pull(input, buffer)?;
+        let pulled = self.pull(input, most)?;
         let taken = self.take(until_done, worker, gate, tally)?;
         Ok(pushed | pulled | taken)
     }

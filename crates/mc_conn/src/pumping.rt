@@ -39,11 +39,10 @@ pub fn pump<R: Wait, I: Input, O: Output>(
     if conn.is_closed {
         return Ok(());
     }
-    let mut buffer = [0u8; PULL_BYTES];
     // Nobody looks at it.
     let mut tally = Tally::new();
     for _ in rt.forever() {
-        match conn.turn(worker, input, output, &mut Open, &mut buffer, &mut tally)? {
+        match conn.turn(worker, input, output, &mut Open, PULL_BYTES, &mut tally)? {
             State::Closed => return Ok(()),
             State::Idle => {}
             State::Busy => {}
@@ -80,11 +79,10 @@ pub fn pump_until<R: Wait, I: Input, O: Output>(
     if conn.is_closed {
         return Ok(State::Closed);
     }
-    let mut buffer = [0u8; PULL_BYTES];
     // Nobody looks at it.
     let mut tally = Tally::new();
     for _ in rt.forever() {
-        match conn.turn_until(worker, input, output, &mut Open, &mut buffer, &mut tally)? {
+        match conn.turn_until(worker, input, output, &mut Open, PULL_BYTES, &mut tally)? {
             State::Closed => return Ok(State::Closed),
             State::Full => return Ok(State::Full),
             State::Idle => {}

@@ -9,7 +9,7 @@ ghost use Rattle.mc_conn.specs.Owed.{FitsLog};
 ghost use Rattle.mc_conn.specs.Tallying.{HasCounted, HasCountedTo, counted_at};
 ghost use Rattle.mc_conn.specs.Turn.{queue_of, scene};
 
-use crate::conn::{Conn, PULL_BYTES, State};
+use crate::conn::{Conn, State};
 use crate::queue::Queue;
 use mc_counters::Tally;
 use mc_model::{Fault, Reply, WireNo};
@@ -64,7 +64,7 @@ impl Conn {
         input: &mut I,
         output: &mut O,
         gate: &mut G,
-        buffer: &mut [u8; PULL_BYTES],
+        most: usize,
         tally: &mut Tally,
     ) -> Result<State, Fault>
         requires role { FitsLog self.old.role worker.old }
@@ -81,7 +81,7 @@ impl Conn {
     {
         let first = self.push(output)?;
         let taken = self.take(until_done, worker, gate, tally)?;
-        let pulled = self.pull_and_take(until_done, worker, input, output, gate, buffer, tally)?;
+        let pulled = self.pull_and_take(until_done, worker, input, output, gate, most, tally)?;
         let last = self.push(output)?;
         Ok(self.state(until_done, worker, first | taken | pulled | last))
     }
@@ -109,7 +109,7 @@ impl Conn {
         input: &mut I,
         output: &mut O,
         gate: &mut G,
-        buffer: &mut [u8; PULL_BYTES],
+        most: usize,
         tally: &mut Tally,
     ) -> Result<State, Fault>
         requires role { FitsLog self.old.role worker.old }
@@ -133,7 +133,7 @@ impl Conn {
         if self.is_closed {
             return Ok(State::Closed);
         }
-        match self.go_round(until_done, worker, input, output, gate, buffer, tally) {
+        match self.go_round(until_done, worker, input, output, gate, most, tally) {
             Ok(state) => Ok(state),
             Err(fault) => {
                 self.close(fault, output);
@@ -147,9 +147,9 @@ impl Conn {
     /// again, and pushes their replies.
     ///
     /// Requests are taken, and bytes pulled, while no more than `QUEUE_BYTES` are queued. Bytes are
-    /// pulled only if no whole request is held then, and into the buffer, which the caller may use
-    /// again afterwards. The tally counts the requests that get a reply, quiet or not, and the
-    /// refusal of one that memory ran out for. A full log is a reply, not an error.
+    /// pulled only if no whole request is held then, at most `most` bytes, and no more than
+    /// `PULL_BYTES`. The tally counts the requests that get a reply, quiet or not, and the refusal
+    /// of one that memory ran out for. A full log is a reply, not an error.
     ///
     /// Each error closes the connection for good; later turns return `Closed` and do nothing.
     /// Returns `Memory` if memory runs out, which is reported to the client as far as the output
@@ -161,7 +161,7 @@ impl Conn {
         input: &mut I,
         output: &mut O,
         gate: &mut G,
-        buffer: &mut [u8; PULL_BYTES],
+        most: usize,
         tally: &mut Tally,
     ) -> Result<State, Fault>
         requires role { FitsLog self.old.role worker.old }
@@ -190,7 +190,7 @@ impl Conn {
             × (self.new ≡ self.old) × (worker.new ≡ worker.old)
             × (input.new ≡ input.old) × (output.new ≡ output.old) }
     {
-        self.turn_or_close(false, worker, input, output, gate, buffer, tally)
+        self.turn_or_close(false, worker, input, output, gate, most, tally)
     }
 
     /// Makes one turn as `turn` does, but leaves commands to the next log: where the next request
@@ -204,7 +204,7 @@ impl Conn {
         input: &mut I,
         output: &mut O,
         gate: &mut G,
-        buffer: &mut [u8; PULL_BYTES],
+        most: usize,
         tally: &mut Tally,
     ) -> Result<State, Fault>
         requires role { FitsLog self.old.role worker.old }
@@ -225,6 +225,6 @@ impl Conn {
             × (self.new ≡ self.old) × (worker.new ≡ worker.old)
             × (input.new ≡ input.old) × (output.new ≡ output.old) }
     {
-        self.turn_or_close(true, worker, input, output, gate, buffer, tally)
+        self.turn_or_close(true, worker, input, output, gate, most, tally)
     }
 }

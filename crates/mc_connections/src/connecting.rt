@@ -27,7 +27,7 @@ use std::mem;
 use uc_worker::{Gate, Worker};
 
 /// How many turns a connection gets at most each time that it is served, so that the others get
-/// theirs soon: a turn takes at most a buffer of bytes.
+/// theirs soon: a turn takes at most `PULL_BYTES`.
 const TURNS: u32 = 2;
 
 /// What serving a connection came to.
@@ -41,7 +41,8 @@ pub(crate) struct Served {
     pub bytes: u64,
 }
 
-/// Makes a turn, which leaves commands to the next log if `until_done` is set.
+/// Makes a turn, which pulls at most `most` bytes, and leaves commands to the next log if
+/// `until_done` is set.
 ///
 /// Returns the errors of `turn`.
 fn turn_once<I: Input, O: Output, G: Gate>(
@@ -51,7 +52,7 @@ fn turn_once<I: Input, O: Output, G: Gate>(
     input: &mut I,
     output: &mut O,
     gate: &mut G,
-    buffer: &mut [u8; PULL_BYTES],
+    most: usize,
     tally: &mut Tally,
 ) -> Result<State, Fault>
     requires { FitsLog conn.old.role worker.old }
@@ -72,15 +73,15 @@ fn turn_once<I: Input, O: Output, G: Gate>(
         × (input.new ≡ input.old) × (output.new ≡ output.old) }
 {
     if until_done {
-        conn.turn_until(worker, input, output, gate, buffer, tally)
+        conn.turn_until(worker, input, output, gate, most, tally)
     } else {
-        conn.turn(worker, input, output, gate, buffer, tally)
+        conn.turn(worker, input, output, gate, most, tally)
     }
 }
 
 /// Makes turns until nothing is left to do, `TURNS` were made, `REQUESTS_OF_A_READ` were answered,
 /// the output is spent, a command is left to the next log, or a fault has ended the connection.
-/// Returns the connection's state afterwards.
+/// Each pulls at most `most` bytes. Returns the connection's state afterwards.
 fn turns<I: Input, O: Output + Spends, G: Gate>(
     until_done: bool,
     conn: &mut Conn,
@@ -88,7 +89,7 @@ fn turns<I: Input, O: Output + Spends, G: Gate>(
     input: &mut I,
     output: &mut O,
     gate: &mut G,
-    buffer: &mut [u8; PULL_BYTES],
+    most: usize,
     tally: &mut Tally,
 ) -> State
     requires { FitsLog conn.old.role worker.old }
@@ -110,7 +111,7 @@ fn turns<I: Input, O: Output + Spends, G: Gate>(
     mc_conn::laws::counts_add_up();
     let last = conn.answered().saturating_add(REQUESTS_OF_A_READ);
     for _ in 0..TURNS {
-        match turn_once(until_done, conn, worker, input, output, gate, buffer, tally) {
+        match turn_once(until_done, conn, worker, input, output, gate, most, tally) {
             Ok(State::Busy) => {
                 if conn.answered() >= last || output.is_spent() {
                     return State::Busy;
@@ -130,7 +131,6 @@ impl Connection {
         until_done: bool,
         worker: &mut Worker<'_>,
         gate: &mut G,
-        buffer: &mut [u8; PULL_BYTES],
         stops_short: bool,
         tally: &mut Tally,
     ) -> Served
@@ -156,7 +156,7 @@ impl Connection {
         *is_served = true;
         let answered = conn.answered();
         let tape = mem::replace(received, Tape::new());
-        let mut input = SocketInput::resume(stream, pace.most_read(), stops_short, tape, came);
+        let mut input = SocketInput::resume(stream, stops_short, tape, came);
         let tape = mem::replace(sent, Tape::new());
         let mut output = SocketOutput::resume(stream, tape, went);
         let state = turns(
@@ -166,7 +166,7 @@ impl Connection {
             &mut input,
             &mut output,
             gate,
-            buffer,
+            pace.most_read(),
             tally,
         );
         (*received, *bytes_received) = input.into_parts();
@@ -238,7 +238,8 @@ impl Connections {
     }
 
     /// Serves the connection under a key, if there is one, and counts its requests in the tally. If
-    /// it has ended it is removed, and its stream closes.
+    /// it has ended it is removed, and its stream closes: what has come on it goes into the buffer
+    /// and is dropped.
     pub(crate) fn serve<G: Gate>(
         &mut self,
         until_done: bool,
@@ -264,7 +265,7 @@ impl Connections {
                 bytes: 0,
             };
         };
-        let served = connection.serve(until_done, worker, gate, buffer, stops_short, tally);
+        let served = connection.serve(until_done, worker, gate, stops_short, tally);
         if served.state == State::Closed {
             let Some(connection) = self.by_key.try_remove(key) else {
                 unreachable!();

@@ -1,6 +1,6 @@
 //! What a line does, and what it must show: rows of acts, one after another.
 use crate::connections::lines::Line;
-use mc_conn::{PULL_BYTES, State};
+use mc_conn::State;
 use mc_counters::CommandKind;
 use mc_model::{Fault, WireNo};
 use mc_stream::{Pull, Push};
@@ -48,9 +48,8 @@ pub(crate) enum Act<'a> {
 impl Line<'_> {
     /// Makes turns until one ends in this state. Returns whether one does.
     fn comes_to(&mut self, end: State) -> Result<bool, Fault> {
-        let mut buffer = [0u8; PULL_BYTES];
         for _ in 0..TURNS {
-            if self.turn(&mut buffer)? == end {
+            if self.turn()? == end {
                 return Ok(true);
             }
         }
@@ -59,9 +58,8 @@ impl Line<'_> {
 
     /// Returns whether the next turns all end in this state.
     fn stays(&mut self, end: State, turns: u32) -> Result<bool, Fault> {
-        let mut buffer = [0u8; PULL_BYTES];
         for _ in 0..turns {
-            if self.turn(&mut buffer)? != end {
+            if self.turn()? != end {
                 return Ok(false);
             }
         }
@@ -70,8 +68,7 @@ impl Line<'_> {
 
     /// Returns whether a turn that leaves commands ends in this state.
     fn leaves(&mut self, end: State) -> Result<bool, Fault> {
-        let mut buffer = [0u8; PULL_BYTES];
-        Ok(self.turn_until(&mut buffer)? == end)
+        Ok(self.turn_until()? == end)
     }
 
     /// Returns whether the turns end with this fault.

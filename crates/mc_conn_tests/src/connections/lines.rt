@@ -95,11 +95,7 @@ fn is_among(role: &Role, tenants: usize) -> bool
 }
 
 /// Makes a turn, and promises only that the role and the worker's log stay the same.
-fn turn(
-    wire: &mut Wire,
-    worker: &mut Worker<'_>,
-    buffer: &mut [u8; PULL_BYTES],
-) -> Result<State, Fault>
+fn turn(wire: &mut Wire, worker: &mut Worker<'_>) -> Result<State, Fault>
     requires { FitsLog wire.old.conn.role worker.old }
     ensures role { wire.new.conn.role ≡ wire.old.conn.role }
     ensures log { worker.new.log ≡ worker.old.log }
@@ -110,18 +106,14 @@ fn turn(
         &mut wire.input,
         &mut wire.output,
         &mut Open,
-        buffer,
+        PULL_BYTES,
         tally,
     )
 }
 
 /// Makes a turn that leaves commands to the next log, and promises only that the role and the
 /// worker's log stay the same.
-fn turn_until(
-    wire: &mut Wire,
-    worker: &mut Worker<'_>,
-    buffer: &mut [u8; PULL_BYTES],
-) -> Result<State, Fault>
+fn turn_until(wire: &mut Wire, worker: &mut Worker<'_>) -> Result<State, Fault>
     requires { FitsLog wire.old.conn.role worker.old }
     ensures role { wire.new.conn.role ≡ wire.old.conn.role }
     ensures log { worker.new.log ≡ worker.old.log }
@@ -132,7 +124,7 @@ fn turn_until(
         &mut wire.input,
         &mut wire.output,
         &mut Open,
-        buffer,
+        PULL_BYTES,
         tally,
     )
 }
@@ -145,19 +137,19 @@ impl<'a> Line<'a> {
     }
 
     /// Makes a turn, if the line's role fits the log.
-    pub(crate) fn turn(&mut self, buffer: &mut [u8; PULL_BYTES]) -> Result<State, Fault> {
+    pub(crate) fn turn(&mut self) -> Result<State, Fault> {
         if !is_among(self.wire.conn.role(), self.log.settings().tenants().len()) {
             return Err(Fault::BadEvent);
         }
-        turn(&mut self.wire, &mut self.worker, buffer)
+        turn(&mut self.wire, &mut self.worker)
     }
 
     /// Makes a turn that leaves commands to the next log, if the line's role fits the log.
-    pub(crate) fn turn_until(&mut self, buffer: &mut [u8; PULL_BYTES]) -> Result<State, Fault> {
+    pub(crate) fn turn_until(&mut self) -> Result<State, Fault> {
         if !is_among(self.wire.conn.role(), self.log.settings().tenants().len()) {
             return Err(Fault::BadEvent);
         }
-        turn_until(&mut self.wire, &mut self.worker, buffer)
+        turn_until(&mut self.wire, &mut self.worker)
     }
 
     /// Closes the connection as after this fault.

@@ -42,7 +42,7 @@ returns-in_err-pulled-clause-pulls g c =
     let within = within_bound (queue_of c.args.self.now) (queue_of c.push.new.self) c.len.result _ _ c.len.ensures c.if-is_some-len.false c.push.ensures.within in
     let left = still_on (queue_of c.push.new.self) c.push.new.self.is_over c.is_empty.result _ c.is_empty.ensures c.if-self-is_empty.false c.in_ok-pushed.ensures.left in
     pulls_once _ (scene c.push.new.self c.args.worker.now (both (g.I.Input.tells c.args.input.now) (g.O.Output.tells c.push.new.output))) _ (c.in_ok-pushed.ensures.outcome c.args.until_done _ _).takes
-    refl none within left c.pull.ensures.once.0 c.pull.ensures.once.1 c.pull.ensures.short refl
+    refl none within left c.pull.ensures.once refl
 
 pub returns-in_err-taken-clause-pulls : goal.returns-in_err-taken-clause-pulls
 returns-in_err-taken-clause-pulls g c =
@@ -52,7 +52,7 @@ returns-in_err-taken-clause-pulls g c =
     let within = within_bound (queue_of c.args.self.now) (queue_of c.push.new.self) c.len.result _ _ c.len.ensures c.if-is_some-len.false c.push.ensures.within in
     let left = still_on (queue_of c.push.new.self) c.push.new.self.is_over c.is_empty.result _ c.is_empty.ensures c.if-self-is_empty.false c.in_ok-pushed.ensures.left in
     pulls_once _ (scene c.push.new.self c.args.worker.now (both (g.I.Input.tells c.args.input.now) (g.O.Output.tells c.push.new.output))) _ (c.in_ok-pushed.ensures.outcome c.args.until_done _ _).takes
-    refl none within left c.pull.ensures.once.0 c.pull.ensures.once.1 c.pull.ensures.short refl
+    refl none within left c.pull.ensures.once refl
 
 pub returns-clause-pulls : goal.returns-clause-pulls
 returns-clause-pulls g c =
@@ -62,7 +62,7 @@ returns-clause-pulls g c =
     let within = within_bound (queue_of c.args.self.now) (queue_of c.push.new.self) c.len.result _ _ c.len.ensures c.if-is_some-len.false c.push.ensures.within in
     let left = still_on (queue_of c.push.new.self) c.push.new.self.is_over c.is_empty.result _ c.is_empty.ensures c.if-self-is_empty.false c.in_ok-pushed.ensures.left in
     pulls_once _ (scene c.push.new.self c.args.worker.now (both (g.I.Input.tells c.args.input.now) (g.O.Output.tells c.push.new.output))) _ (c.in_ok-pushed.ensures.outcome c.args.until_done _ _).takes
-    refl none within left c.pull.ensures.once.0 c.pull.ensures.once.1 c.pull.ensures.short refl
+    refl none within left c.pull.ensures.once refl
 
 pub returns-then-is_some-len-clause-tally : goal.returns-then-is_some-len-clause-tally
 returns-then-is_some-len-clause-tally g c = tallies_self _ _
