@@ -3,7 +3,7 @@
 each case says; with 1 and 2 workers, and next to memcached, where both are clients of one instance with as many threads.
 
 Prints a line `SERVER: CASE: WHAT<TAB>VALUE<TAB>UNIT` for each measurement: the median, the 99th and the 99.9th percentile and the longest of
-the quiet tenant's times to a reply, and how many requests or rounds the noisy one did in a second. `nobody` is the quiet tenant alone. A flush isn't
+the quiet tenant's times to a reply, how many requests or rounds the noisy one did in a second, and the server's resident memory. `nobody` is the quiet tenant alone. A flush isn't
 measured at memcached, where it takes the quiet client's item too.
 
 Usage: bench/neighbours.py [BINARY [CASE...]] [--seconds N] [--workers W] [--no-memcached] [--option WORD]; the binary is
@@ -24,13 +24,17 @@ import time
 
 sys.path.insert(0, str(pathlib.Path(__file__).parents[1] / "tests"))
 from harness import repository
+from harness.bounds import MEBIBYTE, held, number
 from harness.client import Client
 from harness.measures import figures_of, print_figure, print_load
 from harness.servers import LARGE, Memcached, Server
 from wfmc import build_load
 
-ENDLESS = ("--places", "1048576", "--generations", "0", "--log-bytes", str(256 << 20))
-MEBIBYTE = 1 << 20
+PLACES = 1_048_576
+LOG_BYTES = 256 * MEBIBYTE
+ENDLESS = ("--places", str(PLACES), "--generations", "0", "--log-bytes", str(LOG_BYTES))
+# More than a case has at a time; one of them asks for as many names as a line has.
+CONNECTIONS = 410
 MOST_REQUESTS = 100_000_000
 QUIET_REQUESTS = 2_000_000
 FLUSHED = 400_000
@@ -144,8 +148,9 @@ def keep_to(processors, pid=0):
 
 
 def wfmc(program, workers, options):
-    """A server with the tenants' quotas, and the ports of the quiet and of the noisy one."""
-    server = Server(program, ("--workers", str(workers), *ENDLESS, *options), {"quiet": LARGE, "noisy": LARGE})
+    """A server with the tenants' quotas, within the memory that docs/OPERATING.md says that it takes, and the ports of the quiet and of the noisy one."""
+    most = number(workers, PLACES, [LARGE, LARGE], CONNECTIONS * held(names=1) + held(), LOG_BYTES)
+    server = Server(program, ("--workers", str(workers), *ENDLESS, *options), {"quiet": LARGE, "noisy": LARGE}, address_space=most)
     server.await_workers("quiet")
     return server, server.ports["quiet"], server.ports["noisy"]
 
@@ -171,7 +176,8 @@ def measure(load, seconds, started, noise):
         if client.returncode:
             raise subprocess.CalledProcessError(client.returncode, words)
         done = [("the noisy one's requests or rounds", noise.stop(), "1/s")] if noise else []
-    return [*((name, value, unit) for name, value, unit in figures_of(printed) if "times to a reply" in name), *done]
+        memory = ("the server's memory at its greatest", server.peak() / MEBIBYTE, "MiB")
+    return [*((name, value, unit) for name, value, unit in figures_of(printed) if "times to a reply" in name), *done, memory]
 
 
 def main():

@@ -1,6 +1,6 @@
 #!/usr/bin/env python3
 """Fuzzes wfmc, as built, over sockets on loopback:
-fuzz.py [SECONDS] [BINARY] [--seed N] [--round N] [--generations [--workers W] [--log-bytes B]].
+fuzz.py [SECONDS] [BINARY] [--seed N] [--round N] [--generations [--workers W] [--log-bytes B] [--within]].
 
 For this many seconds (60) it runs rounds, each with a server and tenants of its own, and all of these at once:
 - tenants with one connection after another, random and mutated streams in random pieces: the replies byte for byte as the oracle has them;
@@ -17,7 +17,8 @@ threads the server ends; and gets whose replies are far above the process's memo
 With `--generations` the logs have 64 places and follow one another without an end, below 1, 2 and 4 workers by turns, or always as many as
 `--workers` says; there are four tenants, one of each of the first four kinds, and no reply is that the log is full. With `--log-bytes` the logs
 have 4,096 places, and are closed after this many bytes of commands, 4,000 for example. Before the rounds it is the memory under a load that is
-repeated, and with `--log-bytes` whether logs are closed by their bytes, and what they keep.
+repeated, and with `--log-bytes` whether logs are closed by their bytes, and what they keep. With `--within` each round's server has no more
+address space than docs/OPERATING.md says that it takes ("One number"). A round's server is killed at its end, and the next one begins anew.
 
 Replay a round with --seed N --round M. Prints a line for each failure; the last line is 'N passed, M failed'.
 """
@@ -38,14 +39,17 @@ from generators import StreamGenerator, limit_lines, mutated, pieces
 from harness import repository
 from harness.client import Exchange, connect, exchange, reset
 from harness.results import Results
-from harness.servers import ADMIN, ENDLESS_WORKERS, METRICS, Server, endless
+from harness.servers import ADMIN, ENDLESS_WORKERS, METRICS, Server, endless, most_of_endless
 from oracle import protocol
 from oracle.replies import NEVER_FULL, Replies
 from oracle.table import Table
 
 LATE = 10.0
 ROUND_SECONDS = 3.0
+# Connections of a round over logs that follow one another that take much at once.
+AT_A_TIME = 64
 LARGE = (1_000_000, 1_000_000_000)
+MOST = (1_048_576, 1_073_741_824)
 QUOTAS = ((1, 60), (3, 300), (4, 70_000), (1_000, 2_000_000), LARGE)
 VERSION = b"VERSION 1.0.0\r\n"
 LIMITED = ("first-of-four", "another", "third_in_order", "last")
@@ -271,6 +275,7 @@ def settled(server, base):
 class Round:
     """A server and all who talk to it at once, all made from one seed."""
 
+    address_space = None
     noise = "noise"  # the tenant of those whose replies aren't compared
     calm = "steady"  # and of the one whose waits are measured
 
@@ -305,7 +310,7 @@ class Round:
 
     def run(self, pool):
         """All that was found, as pairs of what was tried and what is wrong, and the steady client's longest wait."""
-        with Server(self.program, self.options, self.tenants) as server:
+        with Server(self.program, self.options, self.tenants, address_space=self.address_space) as server:
             base = at_rest(server, self.workers)
             calls = list(self.calls(server.ports))
             answers = [(call, pool.submit(attempt, *call)) for call in reversed(calls)]
@@ -330,11 +335,15 @@ class EndlessRound(Round):
 
     noise = calm = "shared"
 
-    def __init__(self, program, seed, workers, log_bytes):
+    def __init__(self, program, seed, workers, log_bytes, is_within):
         self.program, self.workers = program, workers
         chance = random.Random(seed)
         self.options = [*ADMIN, "--workers", str(workers), *endless(log_bytes)]
         self.tenants = {name: chance.choice(QUOTAS) for name in ("solo0", LIMITED[0])} | dict.fromkeys(("shared", "killed"), LARGE)
+        if is_within:
+            # An administrator may give the tenant that is limited as much as there can be.
+            most = self.tenants | {LIMITED[0]: MOST}
+            self.address_space = most_of_endless(workers, most, AT_A_TIME, log_bytes)
         self.seeds = chance
 
 
@@ -609,9 +618,10 @@ def words():
     parser.add_argument("--generations", action="store_true", help="over logs of 64 places, one after another")
     parser.add_argument("--workers", type=int, help="with --generations: always this many")
     parser.add_argument("--log-bytes", type=int, help="with --generations: over logs that are closed after this many bytes of commands")
+    parser.add_argument("--within", action="store_true", help="with --generations: with no more memory than OPERATING says")
     asked = parser.parse_intermixed_args()
-    if not asked.generations and (asked.workers or asked.log_bytes):
-        parser.error("--workers and --log-bytes go with --generations")
+    if not asked.generations and (asked.workers or asked.log_bytes or asked.within):
+        parser.error("--workers, --log-bytes and --within go with --generations")
     return asked
 
 
@@ -620,7 +630,7 @@ def round_of(asked, number):
     seed = f"{asked.seed}/{number}"
     if asked.generations:
         workers = asked.workers or ENDLESS_WORKERS[number % len(ENDLESS_WORKERS)]
-        return EndlessRound(asked.program, seed, workers, asked.log_bytes)
+        return EndlessRound(asked.program, seed, workers, asked.log_bytes, asked.within)
     return Round(asked.program, seed)
 
 

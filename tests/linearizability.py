@@ -1,6 +1,6 @@
 #!/usr/bin/env python3
 """Tests that each tenant's history is linearizable:
-linearizability.py [SECONDS] [BINARY] [--seed N] [--generations [--workers W] [--log-bytes B]] | --self-test.
+linearizability.py [SECONDS] [BINARY] [--seed N] [--generations [--workers W] [--log-bytes B] [--within]] | --self-test.
 
 For this many seconds (60) it starts wfmc with 1 to 4 workers, or 16, and for each of several tenants clients at once, each a process with a
 connection of its own. They send commands over the same few keys, some ahead of replies, and note when each was sent and answered. Next to the
@@ -10,7 +10,8 @@ answered when it was sent, so a client reads its own writes too.
 With `--generations` the logs have 64 places and follow one another without an end, below 1, 2 and 4 workers by turns, or always as many as
 `--workers` says; there are four tenants, each with an administrator and with a client whose connections are killed at any byte. One order
 explains the replies over all logs, and none is that the log is full. With `--log-bytes` the logs have 4,096 places, and are closed after this
-many bytes of commands, 4,000 for example; the server's metrics show that they were.
+many bytes of commands, 4,000 for example; the server's metrics show that they were. With `--within` each server has no more address space
+than docs/OPERATING.md says that it takes ("One number").
 
 `--self-test` tests the checker instead: histories made wrong on purpose must be refused, and right ones accepted. The last line is
 'N passed, M failed'.
@@ -32,7 +33,7 @@ from harness import repository
 from harness.client import connect, peer_socket, reset
 from harness.processes import SECONDS, sockets
 from harness.results import Results
-from harness.servers import ADMIN, ENDLESS_WORKERS, METRICS, Server, endless
+from harness.servers import ADMIN, ENDLESS_WORKERS, METRICS, Server, endless, most_of_endless
 from linearizability_checker import Call
 from oracle import protocol
 from oracle.table import Table
@@ -251,7 +252,7 @@ def run_one_log(program, seed, _number):
             yield f"{workers} workers, {places} places, tenant {name}, {count} clients", Table(*tenants[name]), places, history
 
 
-def run_endless(program, seed, number, workers, log_bytes):
+def run_endless(program, seed, number, workers, log_bytes, is_within):
     """As `run_one_log`, over logs that follow one another, next to clients whose connections are killed. The numbers of workers take turns."""
     chance = random.Random(seed)
     workers = workers[number % len(workers)]
@@ -261,7 +262,9 @@ def run_endless(program, seed, number, workers, log_bytes):
     # server until its metrics are read.
     connections = sum(count + 1 + EPOCHS for count in alike.values()) + 1
     options = [*ADMIN, *METRICS, "--workers", str(workers), *endless(log_bytes), "--connections", str(connections)]
-    with Server(program, options, tenants) as server:
+    # An administrator may give a tenant as much as any.
+    address_space = most_of_endless(workers, dict.fromkeys(tenants, max(QUOTAS)), connections, log_bytes) if is_within else None
+    with Server(program, options, tenants, address_space=address_space) as server:
         idle = server.connect(next(iter(tenants)))
         kinds = {
             name: [(Client, (server.ports[name],))] * alike[name]
@@ -463,9 +466,10 @@ def words():
     parser.add_argument("--workers", type=int, help="with --generations: always this many")
     parser.add_argument("--log-bytes", type=int, help="with --generations: over logs that are closed after this many bytes of commands")
     parser.add_argument("--self-test", action="store_true", help="tests the checker itself")
+    parser.add_argument("--within", action="store_true", help="with --generations: with no more memory than OPERATING says")
     asked = parser.parse_intermixed_args()
-    if not asked.generations and (asked.workers or asked.log_bytes):
-        parser.error("--workers and --log-bytes go with --generations")
+    if not asked.generations and (asked.workers or asked.log_bytes or asked.within):
+        parser.error("--workers, --log-bytes and --within go with --generations")
     return asked
 
 
@@ -477,7 +481,7 @@ def main():
         repository.enter(asked.program)
         print(f"--seed {asked.seed}", flush=True)
         workers = (asked.workers,) if asked.workers else ENDLESS_WORKERS
-        run_logs = functools.partial(run_endless, workers=workers, log_bytes=asked.log_bytes)
+        run_logs = functools.partial(run_endless, workers=workers, log_bytes=asked.log_bytes, is_within=asked.within)
         run, runs = (run_logs, len(workers)) if asked.generations else (run_one_log, 1)
         check_histories(run, runs, asked.program, asked.seconds, asked.seed)
     results.finish()

@@ -13,34 +13,19 @@ import select
 import sys
 
 from harness import repository
+from harness.bounds import MEBIBYTE, held, number
 from harness.results import Results
 from harness.servers import Server
 from oracle.protocol import STARVED
 
 PROGRAM = sys.argv[1] if len(sys.argv) > 1 else repository.program("wfmc")
-MEBIBYTE = 1 << 20
 BLOCK = MEBIBYTE - 1_000
 QUOTA = (1_000, 8 * MEBIBYTE)
 WORKERS, PLACES, LOG_BYTES = 2, 4_096, 16 * MEBIBYTE
 CONNECTIONS, SETS = 40, 64
-# What a reply takes for each name of its line, besides the data that it shares.
-NAME_BYTES = 600
 NO_ROOM = b"SERVER_ERROR out of memory storing object\r\n"
 results = Results()
 check = results.check
-
-
-def held(names, data):
-    """The bytes that a connection takes at most, as docs/OPERATING.md has them, where a line asks for this many names, and the items among them
-    have this much data."""
-    return 2 * MEBIBYTE + data + 2 * (MEBIBYTE + NAME_BYTES * names)
-
-
-def number(quotas, connections):
-    """The bytes of address space that wfmc takes at most, where its connections take this many."""
-    logs = 2 * (PLACES * (273 + 60 * WORKERS) + LOG_BYTES)
-    tables = (WORKERS + 2) * sum(size + 170 * items for items, size in quotas)
-    return (4 + 140 * WORKERS) * MEBIBYTE + logs + tables + connections
 
 
 def block_line(key):
@@ -75,6 +60,11 @@ def options():
     return ["--workers", str(WORKERS), "--places", str(PLACES), "--generations", "0", "--log-bytes", str(LOG_BYTES)]
 
 
+def most_with(connections):
+    """The number, where the connections take this many bytes."""
+    return number(WORKERS, PLACES, [QUOTA, QUOTA], connections, LOG_BYTES)
+
+
 def limited(bytes_of_all):
     return Server(PROGRAM, options(), {"a": QUOTA, "b": QUOTA}, address_space=bytes_of_all)
 
@@ -88,7 +78,7 @@ def hold_blocks(server, count):
 
 
 def check_number():
-    most = number([QUOTA, QUOTA], CONNECTIONS * held(names=1, data=BLOCK))
+    most = most_with(CONNECTIONS * held(names=1, data=BLOCK))
     with limited(most) as server:
         writers = {name: server.connect(name) for name in "ab"}
         for name, writer in writers.items():
@@ -129,7 +119,7 @@ def check_large_replies():
     """A line asks for far more bytes than there is memory for: what the log and the tables have is sent from there."""
     for key, size, names in ((b"k", BLOCK, 500), (b"m", 4_000, 30_000)):
         most = held(names, data=size)
-        with limited(number([QUOTA, QUOTA], most)) as server, server.client("a").socket as client:
+        with limited(most_with(most)) as server, server.client("a").socket as client:
             send_all(client, b"set %s 0 0 %d\r\n%s\r\n" % (key, size, b"v" * size))
             stored = line_of(client)
             before = server.figure("VmPeak")

@@ -13,6 +13,7 @@ import tempfile
 import time
 import urllib.request
 
+from .bounds import LOG_BYTES, held, number
 from .client import Client, connect
 from .processes import SECONDS, Process
 
@@ -26,14 +27,21 @@ METRICS = ("--metrics", "127.0.0.1:0")
 
 # The numbers of workers over logs that follow one another.
 ENDLESS_WORKERS = (1, 2, 4)
-# How many places each of these logs has where it is closed by its bytes: more than its commands take until then.
+# How many places each of these logs has, and where it is closed by its bytes: more than its commands take until then.
+FEW_PLACES = 64
 PLACES_ABOVE = 4_096
 
 
 def endless(log_bytes=None):
     """Options for logs that follow one another without an end: of 64 places each, or closed after this many bytes of commands."""
-    size = ("--places", "64") if log_bytes is None else ("--places", str(PLACES_ABOVE), "--log-bytes", str(log_bytes))
+    size = ("--places", str(FEW_PLACES)) if log_bytes is None else ("--places", str(PLACES_ABOVE), "--log-bytes", str(log_bytes))
     return (*size, "--generations", "0")
+
+
+def most_of_endless(workers, tenants, connections, log_bytes=None):
+    """The address space that a server over such logs takes at most, with so many connections at a time."""
+    places = FEW_PLACES if log_bytes is None else PLACES_ABOVE
+    return number(workers, places, tenants.values(), connections * held(), log_bytes or LOG_BYTES)
 
 
 class Server(Process):

@@ -16,8 +16,8 @@ use std::alloc::Global;
 /// A request is taken, and bytes are pulled, only while at most this many bytes are queued.
 pub const QUEUE_BYTES: usize = 1_048_576;
 
-/// How many bytes a pull asks for at most.
-pub const PULL_BYTES: usize = 16_384;
+/// How many bytes a pull asks for at most: as many as the reader takes.
+pub const PULL_BYTES: usize = mc_read::PULL_BYTES;
 
 /// Who sends the requests of a connection.
 #[derive(Debug, Drop)]

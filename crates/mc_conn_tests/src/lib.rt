@@ -1,50 +1,29 @@
-//! Tests of the log, its cells, its workers and the connections over them, through what their
-//! crates make public: threads that see what others put, submit and meet, workers that stop at any
-//! of their steps, answers that are recomputed, and connections whose streams are cut and fail
-//! anywhere. They are in one crate above those that they test: a crate with tests is proved twice,
-//! and each crate of tests loads its libraries anew.
+//! Tests of connections over workers and their log, through what `mc_conn` makes public: streams in
+//! pieces of any size, a queue above its bound, long blocks, faults, two tenants on one log, quotas
+//! set by an administrator, a full log, and a command that is left to the next one.
 #![tactic(auto)]
 
 #[cfg(test)]
-mod alone;
+mod acts;
 #[cfg(test)]
-mod answers;
+mod admin;
 #[cfg(test)]
-mod asking;
+mod faults;
 #[cfg(test)]
-mod cells;
+mod leaving;
 #[cfg(test)]
-mod clients;
+mod lines;
 #[cfg(test)]
-mod closing;
+mod logs;
 #[cfg(test)]
-mod connections;
+mod pairs;
 #[cfg(test)]
-mod flags;
+mod pieces;
 #[cfg(test)]
-mod four;
+mod queueing;
 #[cfg(test)]
-mod full;
+mod runs;
 #[cfg(test)]
-mod generations;
+mod tallies;
 #[cfg(test)]
-mod held;
-#[cfg(test)]
-mod helping;
-#[cfg(test)]
-mod hundred;
-#[cfg(test)]
-mod meeting;
-#[cfg(test)]
-mod parts;
-pub mod places;
-#[cfg(test)]
-mod recomputing;
-#[cfg(test)]
-mod refused;
-#[cfg(test)]
-mod standing;
-#[cfg(test)]
-mod stopped;
-#[cfg(test)]
-mod texts;
+mod tenants;

@@ -5,7 +5,7 @@ use Rattle.mc_stream.specs.declared.stream.Pull.{Pull}
 use Rattle.mc_read.specs.Administering.{lines_spoken}
 use Rattle.mc_read.specs.Reading.{IsFed, ReaderView, raised}
 
--- a pull of at most so many bytes, and those that came stand behind those that were there
+-- a pull of at most `most` bytes, and those that came stand behind those that were there
 pub record PullsBehind (before after : Inflow) (most : ℕ) (old new : List ℕ)
     (pull : Pull) : Type 0 where
   pub memory : List ℕ
@@ -13,7 +13,7 @@ pub record PullsBehind (before after : Inflow) (most : ℕ) (old new : List ℕ)
   pub few : length memory ≤ most
   pub bytes : new ≡ old ++ pulled_by pull memory
 
--- a pull of at most so many bytes, and the reader was fed those that came: they are counted
+-- a pull of at most `most` bytes, and the reader was fed those that came: they are counted
 pub record IsFedByPull (before after : Inflow) (most : ℕ) (old new : ReaderView)
     (pull : Pull) : Type 0 where
   pub memory : List ℕ

@@ -32,8 +32,8 @@ pub(crate) fn copy_block(alloc: Global, size: usize, body: &[u8]) -> Result<(Dat
     }
 }
 
-/// Returns the first `size` bytes of a piece as a block that shares its memory, with whether the
-/// two bytes behind them are a line end. Returns `Memory` if an allocation fails.
+/// Returns the `size` bytes of a piece from `start` on as a block that shares its memory, with
+/// whether the two bytes behind them are a line end. Returns `Memory` if an allocation fails.
 pub(crate) fn share_block(piece: &Bytes, start: usize, size: usize) -> Result<(Data, bool), Fault>
     requires small { size ≤ DATA_BYTES }
     requires whole { start + (size + 2) ≤ length piece.now }

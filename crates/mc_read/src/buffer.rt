@@ -11,10 +11,10 @@ use std::marker::Model;
 const SPARE_BYTES: usize = 65_536;
 
 /// How many bytes a pull takes at most.
-pub const ROOM_BYTES: usize = 16_384;
+pub const PULL_BYTES: usize = 16_384;
 
 /// What spare bytes are before any were written there.
-static ZEROES: [u8; ROOM_BYTES] = [0; ROOM_BYTES];
+static ZEROES: [u8; PULL_BYTES] = [0; PULL_BYTES];
 
 /// A queue of bytes in one vector, between those that were taken and those that are spare: bytes
 /// of before, which are written over. The vector isn't shortened, since it would drop byte by byte.
@@ -60,22 +60,31 @@ fn write_over(bytes: &mut [u8], start: usize, piece: &[u8])
     behind[..piece.len()].copy_from_slice(piece);
 }
 
-/// Makes room for `count` bytes behind the first `end`. Returns `Memory` if an allocation fails;
-/// nothing changes then.
+/// Makes room for `most` bytes behind the first `end`, or for fewer where memory for so many is
+/// refused. Returns for how many there is room. Returns `Memory` if there is room for none; nothing
+/// changes then.
 #[inline(always)]
-fn make_room(bytes: &mut Vec<u8>, end: usize, count: usize) -> Result<(), Fault>
+fn make_room(bytes: &mut Vec<u8>, end: usize, most: usize) -> Result<usize, Fault>
     requires end { end ≤ vec_len bytes.old }
-    requires few { count ≤ ROOM_BYTES }
-    ensures room { OnOk result (end + count ≤ vec_len bytes.new) }
+    requires some { 0 < most }
+    requires few { most ≤ PULL_BYTES }
+    ensures some { IfOk result (λ count. 0 < count) }
+    ensures few { IfOk result (λ count. count ≤ most) }
+    ensures room { IfOk result (λ count. end + count ≤ vec_len bytes.new) }
     ensures front { take end bytes.new.items ≡ take end bytes.old.items }
     ensures memory { IsOkUnless result Fault.Memory }
+    ensures full { OnErr result (end ≡ vec_len bytes.old) }
     ensures unchanged { OnErr result (bytes.new.items ≡ bytes.old.items) }
 {
     let spare = bytes.len() - end;
-    if count > spare {
-        bytes.extend_from_slice(&ZEROES[..count - spare])?;
+    if most <= spare {
+        return Ok(most);
     }
-    Ok(())
+    match bytes.extend_from_slice(&ZEROES[..most - spare]) {
+        Ok(()) => Ok(most),
+        Err(_) if spare > 0 => Ok(spare),
+        Err(_) => Err(Fault::Memory),
+    }
 }
 
 /// Pulls into the bytes from `start` on, at most `most` of them. Returns how many came, too.
@@ -146,8 +155,9 @@ impl Buffer {
         Ok(())
     }
 
-    /// Pulls once, and appends the bytes that came: at most `most`, and no more than `ROOM_BYTES`.
-    /// Returns `Memory` if an allocation fails; nothing is pulled then.
+    /// Pulls once, and appends the bytes that came: at most `most`, and no more than `PULL_BYTES`;
+    /// where memory for so many is refused, as many as there is room for. Returns `Memory` if there
+    /// is room for none; nothing is pulled then.
     pub fn pull<I: Input>(&mut self, input: &mut I, most: usize) -> Result<Pull, Fault>
         requires { 0 < most }
         ensures pulls { IfOk result
@@ -155,10 +165,9 @@ impl Buffer {
         ensures memory { IsOkUnless result Fault.Memory }
         ensures unchanged { OnErr result ((self.new ≡ self.old) × (input.new ≡ input.old)) }
     {
-        let most = most.min(ROOM_BYTES);
         self.settle();
-        make_room(&mut self.bytes, self.end, most)?;
-        let (pull, count) = pull_over(&mut self.bytes, self.end, most, input);
+        let room = make_room(&mut self.bytes, self.end, most.min(PULL_BYTES))?;
+        let (pull, count) = pull_over(&mut self.bytes, self.end, room, input);
         self.end += count;
         Ok(pull)
     }

@@ -5,6 +5,7 @@
 //! requests of that reading, however the stream is cut.
 #![tactic(auto)]
 
+pub use buffer::PULL_BYTES;
 pub use reader::{Reader, ends_stream};
 pub use speaker::Speaker;
 

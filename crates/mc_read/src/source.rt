@@ -25,8 +25,8 @@ use std::marker::Model;
 /// shorter block would keep too much of it.
 const LONG_BYTES: usize = 4_096;
 
-/// The piece that arrived last, and before it what is left of the pieces before. If requests are
-/// asked for after each piece, this is no more than a request that goes on in the last piece.
+/// A piece that is shared, and before it the bytes that were copied or pulled: what is left of the
+/// pieces before. What comes after a piece is copied or pulled behind what is left of that.
 #[derive(Debug, Drop)]
 pub struct Source {
     rest: Buffer,
@@ -252,8 +252,9 @@ impl Source {
         self.rest.extend(piece)
     }
 
-    /// Pulls once, and appends the bytes that came, at most `most`. Returns `Memory` if an
-    /// allocation fails; nothing is pulled then.
+    /// Pulls once, and appends the bytes that came, at most `most`; where memory for so many is
+    /// refused, as many as there is room for. Returns `Memory` if there is room for none; nothing is
+    /// pulled then.
     #[inline(always)]
     pub fn pull<I: Input>(&mut self, input: &mut I, most: usize) -> Result<Pull, Fault>
         requires { 0 < most }

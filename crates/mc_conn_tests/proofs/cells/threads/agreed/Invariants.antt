@@ -1,7 +1,0 @@
-use Rattle.std.proofs.Common.{All}
-use Rattle.mc_conn_tests.specs.Places.{IsSeenIn}
-use Rattle.mc_conn_tests.proofs.cells.threads.agreed.Given as goal
-
-abbrev pub invariant-loop-one : goal.invariant-loop-one
-invariant-loop-one g l =
-    All (IsSeenIn l.cells) l.all.items × All (IsSeenIn l.cells) l.one-iterator.a.rest.items × All (IsSeenIn l.cells) l.one-iterator.b.rest.items

@@ -1,6 +1,0 @@
--- The client works on the same log.
-use Rattle.std.specs.Prelude.{◌≡◌}
-use Rattle.mc_conn_tests.proofs.hundred.submit_all.Given as goal
-
-abbrev pub invariant-loop-number : goal.invariant-loop-number
-invariant-loop-number l = l.client.log ≡ l.initial.client.log

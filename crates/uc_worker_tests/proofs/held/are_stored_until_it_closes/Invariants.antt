@@ -1,0 +1,6 @@
+-- The client works on the same log.
+use Rattle.std.specs.Prelude.{◌≡◌}
+use Rattle.uc_worker_tests.proofs.held.are_stored_until_it_closes.Given as goal
+
+abbrev pub invariant-loop : goal.invariant-loop
+invariant-loop l = l.client.log ≡ l.initial.client.log
