@@ -22,7 +22,7 @@ EventsLead old [] new = new ≡ old
 EventsLead old (event ∷ events) new =
     (between : QueueState) × HappensToQueue event old between × EventsLead between events new
 
--- the flow gives nothing, and no key costs more than that
+-- the flow gives nothing, and no key that another gives costs more than that
 abbrev pub PassesOver : ℕ → ℕ → QueueEvent → Type 0
 PassesOver waiting most (comes flow key) = Unit {0}
 PassesOver waiting most (gives flow key spent) = (flow ≢ waiting) × (spent ≤ most)
@@ -35,7 +35,8 @@ charged_to flow turn (gives other key spent ∷ events) =
     cond (nat_eq turn flow) spent 0 + charged_to flow other events
 
 -- While something waits in a flow and isn't given, no other flow is charged more than a quantum and
--- what one key costs beyond it, however many keys wait there, and whatever comes meanwhile.
+-- what the dearest of the keys costs that are given meanwhile, however many wait there, and whatever
+-- comes.
 abbrev pub WaitsForOneQuantumEach : Type 0
 WaitsForOneQuantumEach =
     (old new : QueueState) (events : List QueueEvent) (waiting other most : ℕ) →

@@ -304,7 +304,7 @@ module _ (past : List Worker) (before after : Worker) (old new : Connection) (ro
 
   -- Up to a fault. The output is treated apart, since words about the fault may have been sent
   -- after it.
-  module _ (fault : Fault) (between : Outflow)
+  module _ (fault : Fault) (between : Outflow) (shut : new.conn.is_closed ≡ true)
       (breaks : Breaks (scene_of old before) (scene new.conn after (both (record { events = new.received.events; left = None }) between)) fault) where
     abbrev owed_then : List ℕ
     owed_then = lives.earlier_owed ++ (lives.owed ++ breaks.taken.owed)
@@ -342,7 +342,7 @@ module _ (past : List Worker) (before after : Worker) (old new : Connection) (ro
           and_then lives.requests breaks.taken.requests lives.owed breaks.taken.owed lives.to (mark_of before) breaks.to (parts_so_far breaks.taken.onward) lives.behind
           (subst (λ (role : Role). Owes after role (mark_of before) breaks.taken.requests breaks.taken.owed breaks.to) (sym role) breaks.taken.owes)
           );
-      ending = inr (record { fault = cause; why = why; sent = subst (λ (owed : List ℕ). BeginsWith (owed ++ words_of cause) (sent_of new)) all_queued sent });
+      ending = inr (record { closed = shut; fault = cause; why = why; sent = subst (λ (owed : List ℕ). BeginsWith (owed ++ words_of cause) (sent_of new)) all_queued sent });
     }
 
     -- what was told about it, if anything was
@@ -378,7 +378,7 @@ module _ (past : List Worker) (before after : Worker) (old new : Connection) (ro
 
   answered_stopping : (fault : Fault) → Stops (scene_of old before) (scene_of new after) fault → AnsweredBy past after new
   answered_stopping fault stops =
-      answered_told fault stops.told_from stops.breaks (record { events = new.sent.events }) refl stops.breaks.cause stops.breaks.failures stops.told
+      answered_told fault stops.told_from stops.shut stops.breaks (record { events = new.sent.events }) refl stops.breaks.cause stops.breaks.failures stops.told
 
 -- a connection on which nothing is left to be done
 answered_done : (past : List Worker) (worker : Worker) (connection : Connection) → Lives past worker connection → IsDone connection.conn → AnsweredBy past worker connection
@@ -575,8 +575,7 @@ lives_so_far past worker connection lives = record {
   owed = lives.earlier_owed ++ lives.owed;
   first = λ more all reads. let then = (lives.reads more all).0 reads in (then.0, then.1);
   owes = logs_then connection.conn.role past lives.earlier lives.earlier_owed lives.earlier_owes worker lives.requests lives.owed lives.to lives.owes;
-  fault = None;
-  sent = (queue_of connection.conn, append-nil (lives.earlier_owed ++ lives.owed) ∙ sym lives.bytes);
+  sent = inl (queue_of connection.conn, sym lives.bytes);
 }
 
 -- and one that has ended
@@ -587,16 +586,14 @@ was_sent workers connection answered = ⊎_elim
       owed = answered.owed;
       first = answered.first;
       owes = answered.owes;
-      fault = None;
-      sent = ([], ap (λ (bytes : List ℕ). bytes ++ []) (sym ends.sent));
+      sent = inl ([], sym ends.sent ∙ sym (append-nil (sent_of connection)));
     })
     (λ cut. record {
       requests = answered.requests;
       owed = answered.owed;
       first = answered.first;
       owes = answered.owes;
-      fault = Some cut.fault;
-      sent = cut.sent;
+      sent = inr cut;
     })
     answered.ending
 

@@ -77,8 +77,10 @@ words_of CellTaken = []
 words_of InputFailed = []
 words_of OutputFailed = []
 
--- a fault: what was sent is a prefix of what is owed followed by the words that report the fault
+-- a fault has closed the connection: what was sent is a prefix of what is owed followed by the words
+-- that report the fault
 pub record IsCut (connection : Connection) (owed : List ℕ) : Type 0 where
+  pub closed : connection.conn.is_closed ≡ true
   pub fault : ConnFault
   pub why : HasFault fault connection
   pub sent : BeginsWith (owed ++ words_of fault) (sent_of connection)

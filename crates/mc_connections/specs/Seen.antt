@@ -3,11 +3,9 @@
 -- Connections are those of memcached's doc/protocol.txt, "Protocol"; that one worker serves several
 -- is this project's profile.
 use mathlib.Core.Logic.{inl, inr}
-use Rattle.std.specs.Option.{option_map_or}
-use Rattle.std.specs.Prelude.{◌≡◌, ◌⊎◌, ℕ, ◌+◌, ◌≤◌, Bool, true, List, [], ◌∷◌, ◌++◌, length, Option, Some, slice_get}
+use Rattle.std.specs.Prelude.{◌≡◌, ◌⊎◌, ℕ, ◌+◌, ◌≤◌, Bool, true, List, [], ◌∷◌, ◌++◌, length, Some, slice_get}
 use Rattle.lists.specs.Lists.{BeginsWith}
 use Rattle.mc_conn.specs.Cited.{ReadsAs}
-use Rattle.mc_conn.specs.ConnFault.{ConnFault}
 use Rattle.mc_conn.specs.Held.{lines_of}
 use Rattle.mc_conn.specs.Owed.{IsPlaced, Logs, Mark, Owes, answered, demand_of, is_logged, mark_of}
 use Rattle.mc_conn.specs.Turn.{Scene}
@@ -16,7 +14,7 @@ use Rattle.mc_conn.specs.declared.conn.State.{State}
 use Rattle.mc_model.specs.declared.command.Command.{Command}
 use Rattle.mc_model.specs.declared.reply.Reply.{Reply}
 use Rattle.mc_model.specs.declared.request.Request.{Request}
-use Rattle.mc_connections.specs.Life.{OwesInLogs, came_of, sent_of, words_of}
+use Rattle.mc_connections.specs.Life.{IsCut, OwesInLogs, came_of, sent_of}
 use Rattle.mc_connections.specs.Serving.{IsServedLater, TakesOrStops, connection_at}
 use Rattle.mc_connections.specs.Working.{Standing}
 use Rattle.mc_connections.specs.declared.connection.Connection.{Connection}
@@ -33,7 +31,8 @@ IsThere now connection =
 -- What a connection was sent so far, by workers of logs that followed one another, as the last of
 -- them is now. Its first requests, whatever more may come, were taken in order, and each is
 -- answered over the history of the worker that took it. What was sent is a prefix of what is owed
--- for these, followed after a fault by the words that report it.
+-- for these, or, where a fault has closed the connection, of that followed by the words that report
+-- it.
 pub record WasSent (workers : List Worker) (connection : Connection) : Type 0 where
   pub requests : List Request
   pub owed : List ℕ
@@ -41,8 +40,7 @@ pub record WasSent (workers : List Worker) (connection : Connection) : Type 0 wh
       ReadsAs (lines_of connection.conn.role) (came_of connection ++ more) all →
       BeginsWith all requests
   pub owes : OwesInLogs connection.conn.role workers requests owed
-  pub fault : Option ConnFault
-  pub sent : BeginsWith (owed ++ option_map_or words_of fault []) (sent_of connection)
+  pub sent : BeginsWith owed (sent_of connection) ⊎ IsCut connection owed
 
 -- Of requests that a worker took from a mark on, the one of this index logs a command, which the
 -- worker has replayed. The mark at which it was due is the one to which it owes for the requests

@@ -71,7 +71,8 @@ pub fn connections_are_answered_over_logs()
 }
 
 /// What a connection was sent by any moment between two serves, whether it is there still or has
-/// ended, is a prefix of what it is owed by the workers that have served it, as they are then.
+/// ended, is a prefix of what it is owed by the workers that have served it, as they are then; where
+/// a fault has closed it, of that and the words that report the fault.
 pub fn connections_are_answered_so_far()
     ensures { (who : InTurn) (connections : Connections) (until : Bool) (begun : Worker)
         (now : Standing) (connection : Connection) → HaveServedInTurn who connections →

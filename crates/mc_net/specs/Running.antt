@@ -53,7 +53,8 @@ pub record FitTogether {G : Type 0} (log : Log) (workers : List Worker) (gates :
 abbrev pub standing_at : Worker → EventLoop → Standing
 standing_at worker event_loop = standing worker event_loop.ready.connections
 
--- how a loop ends without a fault: no connection is left; or commands are left to the next log
+-- how a loop ends without a fault: no connection is left; or, where commands are left to the next
+-- log, with connections that go on there
 abbrev pub EndsAs : Bool → Ended → Standing → Type 0
 EndsAs until Done after = IsEmpty after.connections
 EndsAs until Full after = until ≡ true

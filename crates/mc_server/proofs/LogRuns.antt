@@ -3,7 +3,7 @@
 use Rattle.std.proofs.Common.{◌≡◌, ◌∙◌, ◌⊎◌, ◌<◌, ◌≤◌, ℕ, ◌+◌, ◌-◌, ◌^◌, min, zero, suc, Bool, true, false, List, [], ◌∷◌, ◌++◌, Err, IfOk, Ok, Result, take, Some, All, length, map, slice_get, slice_index_or, ap, arith, refl, sym, subst, inl, inr, ⊎_elim}
 use Rattle.std.proofs.Math.Nat.{min-eq_left}
 use Rattle.std.proofs.Math.Seq.{take-append_seam}
-use Rattle.std.proofs.lemmas.List.Elements.{All-cons, All-contains, All-head, All-nil, All-tail}
+use Rattle.std.proofs.lemmas.List.Elements.{All-cons, All-contains, All-head, All-nil, All-tail, length_all_zip}
 use Rattle.std.proofs.lemmas.Option.{none-some, same_Some}
 use Rattle.std.specs.List.{AllZip}
 use Rattle.mc_connections.specs.Asking.{HaveBeenAsked}
@@ -22,7 +22,7 @@ use Rattle.mc_net.specs.declared.event_loop.EventLoop.{EventLoop}
 use Rattle.mc_net.specs.declared.front.Front.{Front}
 use Rattle.mc_server.proofs.NetworkRuns.{are_workers}
 use Rattle.mc_server.specs.Crew.{AreWorkersOf}
-use Rattle.mc_server.specs.Logs.{CanBeFollowed, Closes, EndsThere, IsAnsweredBy, ServesInTwo, ServesLast, WereServed}
+use Rattle.mc_server.specs.Logs.{CanBeFollowed, Closes, EndsThere, IsAnsweredBy, IsFrontOf, ServesInTwo, ServesLast, WereServed}
 use Rattle.uc_worker.specs.Cited.{entries}
 use Rattle.uc_log.specs.declared.log.Log.{Log}
 use Rattle.uc_worker.specs.Cited.{Sighting}
@@ -159,13 +159,14 @@ all_answered answered asked (x ∷ xs) (z ∷ zs) by over = (
   all_answered answered asked xs zs by.1 (All-tail IsEmptyLoop z zs over),
 )
 
-pub were_served : AreAnswered → AreAsked → (settings : Configuration) (most logs places last number : ℕ) (front : Front) → EndsThere settings logs places last front →
+pub were_served : AreAnswered → AreAsked → (settings : Configuration) (most logs places last number : ℕ) (front : Front) → IsFrontOf settings front → EndsThere settings logs places last front →
     (most ≡ 0) ⊎ (logs < most) → number ≡ places + last → WereServed settings most number
-were_served answered asked settings most logs places last number front ends few total = record {
+were_served answered asked settings most logs places last number front fits ends few total = record {
   logs = logs;
   places = places;
   last = last;
   all = ends.all;
+  many = length_all_zip HasBeenServedBy ends.all front.event_loops.items ends.by ∙ sym front.event_loops.ok.0 ∙ fits.loops;
   served = ends.served;
   serves = ends.serves;
   few = few;

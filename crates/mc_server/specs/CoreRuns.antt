@@ -32,7 +32,7 @@ LastLogsAreCoreRuns = (settings : Configuration) (most number : ℕ) →
     (were : WereServed settings most number) →
     HaveRunTheCore settings were.serves.tables were.closes.closed
 
--- What those had done as they came back, before they met, is one run of the core over these tables.
+-- What those had done as they came back, before they met, is one run of the core too.
 abbrev pub LastLogsComeBackOnCoreRuns : Type 0
 LastLogsComeBackOnCoreRuns = (settings : Configuration) (most number : ℕ) →
     (were : WereServed settings most number) →

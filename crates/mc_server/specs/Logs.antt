@@ -109,12 +109,13 @@ pub record IsAnsweredBy (who : InTurn) (ended : List Connection) : Type 0 where
 -- Tenants were served over at most so many logs with these settings, one after another (0: without
 -- an end), and this many places were used in total: those of the earlier logs, and those of the
 -- last one, whose workers have met and closed it, and of which one run has all that they have done
--- while they served.
+-- while they served. All who have served are as many as each log has workers.
 pub record WereServed (settings : Configuration) (most number : ℕ) : Type 0 where
   pub logs : ℕ
   pub places : ℕ
   pub last : ℕ
   pub all : List InTurn
+  pub many : length all ≡ settings.workers
   pub served : List Worker
   pub serves : ServesLast settings logs places all served
   pub few : (most ≡ 0) ⊎ (logs < most)
