@@ -597,6 +597,8 @@ def calm(port, seed):
 def check_starved(program, pool, workers):
     """Gets of one tenant whose replies are far above the memory that the process may have, next to another tenant."""
     with Server(program, ["--workers", str(workers)], {"greedy": LARGE, "calm": LARGE}) as server:
+        # The C library takes 64 MiB of address space for each thread that allocates: all have by then.
+        server.catch_up("calm")
         limit = server.address_space() + (100 << 20)
         resource.prlimit(server.pid, resource.RLIMIT_AS, (limit, limit))
         stored, _ = exchange(server.ports["greedy"], [b"set b 0 0 1048576\r\n" + b"b" * 1_048_576 + b"\r\n"])

@@ -97,10 +97,10 @@ class Server(Process):
         with urllib.request.urlopen(f"http://127.0.0.1:{self.ports['metrics']}/metrics", timeout=SECONDS) as answer:
             return int(re.search(rb"^wfmc_turn_over_seconds_count ([0-9]+)$", answer.read(), re.M)[1])
 
-    def catch_up(self):
+    def catch_up(self, tenant="a"):
         """Has each worker replay the whole log, as it does with its next command."""
         for worker in range(self.workers):
-            with self.client(worker=worker) as client:
+            with self.client(tenant, worker) as client:
                 client.ask(b"get -\r\n", b"END\r\n")
 
 
