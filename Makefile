@@ -76,10 +76,10 @@ moving: kit ## tests moving a tenant from memcached, behind twemproxy, as docs/C
 # How many minutes the fuzzer takes, and as many the histories, each time; and after how many bytes of commands a log is closed at the third.
 MINUTES = 2
 LOG_BYTES = 4000
-fuzz: linearizability ## fuzzes wfmc over sockets for three times MINUTES (2), over one log and over logs closed by places and by bytes, after make linearizability
+fuzz: linearizability ## fuzzes wfmc over sockets for three times MINUTES (2), over one log and over logs closed by places and by bytes, with the memory that OPERATING says, after make linearizability
 	@python3 tests/fuzz.py $$(($(MINUTES) * 60))
-	@python3 tests/fuzz.py $$(($(MINUTES) * 60)) --generations
-	@python3 tests/fuzz.py $$(($(MINUTES) * 60)) --generations --log-bytes $(LOG_BYTES)
+	@python3 tests/fuzz.py $$(($(MINUTES) * 60)) --generations --within
+	@python3 tests/fuzz.py $$(($(MINUTES) * 60)) --generations --within --log-bytes $(LOG_BYTES)
 
 coverage-fuzz: kit ## fuzzes the reader for MINUTES (2), guided by the code that it reaches, after proving and building it with counters
 	@python3 tests/coverage_fuzz.py --minutes $(MINUTES)
@@ -88,8 +88,8 @@ linearizability: kit ## tests for three times MINUTES (2) that the histories of 
 	@tools/prove.sh wfmc >&2
 	@python3 tests/linearizability.py --self-test
 	@python3 tests/linearizability.py $$(($(MINUTES) * 60))
-	@python3 tests/linearizability.py $$(($(MINUTES) * 60)) --generations
-	@python3 tests/linearizability.py $$(($(MINUTES) * 60)) --generations --log-bytes $(LOG_BYTES)
+	@python3 tests/linearizability.py $$(($(MINUTES) * 60)) --generations --within
+	@python3 tests/linearizability.py $$(($(MINUTES) * 60)) --generations --within --log-bytes $(LOG_BYTES)
 
 allocation-failures: kit ## runs the programs, calls of workers, and the tests of the cells and of a turn over, with each allocation refused in turn, mc_stdin with less and less memory, and wfmc within its number of bytes
 	@tools/prove.sh wfmc mc_stdin mc_schedule refusals >&2

@@ -40,11 +40,11 @@ echo "the histories of wfmc's clients are linearizable"
 count python3 tests/linearizability.py --self-test
 count python3 tests/linearizability.py 20
 count python3 tests/linearizability.py 5 --generations
-count python3 tests/linearizability.py 5 --generations --workers 2 --log-bytes 4000
+count python3 tests/linearizability.py 5 --generations --within --workers 2 --log-bytes 4000
 echo "a round of the fuzzer on wfmc"
 count python3 tests/fuzz.py --seed 77 --round 3
 count python3 tests/fuzz.py --seed 77 --round 2 --generations
-count python3 tests/fuzz.py --seed 77 --round 1 --generations --log-bytes 4000
+count python3 tests/fuzz.py --seed 77 --round 1 --generations --within --log-bytes 4000
 if command -v gcc >/dev/null; then
     echo "calls of workers, with each allocation refused in turn"
     count python3 tests/allocation_failures.py calls
