@@ -23,6 +23,7 @@ use Rattle.mc_conn.specs.Owed.{IsPlaced, IsTurnedAway, Mark, Owes, answered, cou
 use Rattle.mc_conn.specs.Turn.{Scene, Takes}
 use Rattle.mc_conn.proofs.Alone.{announced_all, placed_in_order, turned_away_last}
 use Rattle.mc_conn.proofs.AloneOwed.{own_later, owes_in_order, with_room, without_room}
+use Rattle.mc_conn.proofs.Takings.{count_logged-append}
 
 below_or_not : (n m : ℕ) (below : Bool) → nat_lt n m ≡ below → (n < m) ⊎ (m ≤ n)
 below_or_not n m true is = inl (ltb-true n m is)
@@ -308,7 +309,8 @@ module _ (before after : Scene) (takes : Takes before after) (alone : (seat_of a
       let earlier : count_logged before.conn.role first.taken.requests ≡ length (commands_of first.taken.requests) =
       ap (λ role. count_logged role first.taken.requests) role ∙ count_commands first.taken.requests
       in
-      omega (arith, all, earlier, last.1.last, below))
+      let sum = ap (λ requests. count_logged before.conn.role requests) last.1.all ∙ count_logged-append before.conn.role first.taken.requests last.1.rest.taken.requests in
+      omega (arith, all, earlier, sum, last.1.one, below))
       in_time
 
   pub replayed_in_time : IsClosing after.worker → HasReplayedAll after.worker

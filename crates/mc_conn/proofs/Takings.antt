@@ -183,19 +183,28 @@ in_time_trans a b c one two first second =
     ⊎_elim
     (λ (none : count_logged b.conn.role two.taken.requests ≡ 0). ⊎_elim
     (λ (nothing : count_logged a.conn.role one.taken.requests ≡ 0). inl (omega (arith, sum, same, none, nothing)))
-    (λ (last : (between : Scene) × LogsLast a between b one). inr (
-      last.0,
-      record { first = last.1.first; room = last.1.room; last = omega (arith, sum, same, none, last.1.last) },
-    ))
-    first)
-    (λ (last : (between : Scene) × LogsLast b between c two).
-    let before = count_logged-append a.conn.role one.taken.requests last.1.first.taken.requests in
-    let role : count_logged b.conn.role last.1.first.taken.requests ≡ count_logged a.conn.role last.1.first.taken.requests =
-    ap (λ role. count_logged role last.1.first.taken.requests) one.taken.role
-    in
+    (λ (last : (between : Scene) × LogsLast a between b one).
+    let both = count_logged-append a.conn.role last.1.rest.taken.requests two.taken.requests in
     inr (
       last.0,
-      record { first = takes_trans a b last.0 one last.1.first; room = last.1.room; last = omega (arith, sum, same, before, role, last.1.last) },
+      record {
+        first = last.1.first;
+        room = last.1.room;
+        rest = takes_trans last.0 b c last.1.rest two;
+        one = omega (arith, both, same, none, last.1.one);
+        all = ap (λ (all : List Request). all ++ two.taken.requests) last.1.all ∙ append_assoc last.1.first.taken.requests last.1.rest.taken.requests two.taken.requests;
+      },
+    ))
+    first)
+    (λ (last : (between : Scene) × LogsLast b between c two). inr (
+      last.0,
+      record {
+        first = takes_trans a b last.0 one last.1.first;
+        room = last.1.room;
+        rest = last.1.rest;
+        one = ap (λ role. count_logged role last.1.rest.taken.requests) (sym one.taken.role) ∙ last.1.one;
+        all = ap (λ (all : List Request). one.taken.requests ++ all) last.1.all ∙ sym (append_assoc one.taken.requests last.1.first.taken.requests last.1.rest.taken.requests);
+      },
     ))
     second
 
@@ -345,7 +354,7 @@ module _ (old new : Conn) (worker later : Worker) (streams : Streams) (request :
   unfolding takes_responded takes_self taken_still taken_none
   responded_in_time true is room = inr (
     scene old worker streams,
-    record { first = takes_self (scene old worker streams); room = room refl; last = ap (λ logged. cond logged 1 0 + 0) is },
+    record { first = takes_self (scene old worker streams); room = room refl; rest = takes_responded; one = ap (λ logged. cond logged 1 0 + 0) is; all = refl },
   )
   responded_in_time false is room = inl (ap (λ logged. cond logged 1 0 + 0) is)
 

@@ -119,12 +119,13 @@ pub record Turns (before after : Scene) (state : State) : Type 0 where
       ⊎ (waits before.streams.output.events < waits after.streams.output.events)
 
 -- All requests that were logged but the last were taken before a moment at which the worker's log
--- wasn't closing yet.
+-- wasn't closing yet, and that one after it.
 pub record LogsLast (before between after : Scene) (takes : Takes before after) : Type 0 where
   pub first : Takes before between
   pub room : ¬ (IsClosing between.worker)
-  pub last : count_logged before.conn.role takes.taken.requests
-      ≡ count_logged before.conn.role first.taken.requests + 1
+  pub rest : Takes between after
+  pub one : count_logged before.conn.role rest.taken.requests ≡ 1
+  pub all : takes.taken.requests ≡ first.taken.requests ++ rest.taken.requests
 
 -- no request was logged at a worker whose log was closing
 abbrev pub LogsInTime : {before after : Scene} → Takes before after → Type 0
