@@ -9,7 +9,9 @@ use Rattle.mc_model.specs.declared.request.Request.{Request}
 use Rattle.mc_stream.specs.Event.{Event, last_moved, moved, waits}
 use Rattle.mc_stream.specs.Pushing.{Pushes}
 use Rattle.mc_stream.specs.Stream.{Inflow, Outflow, both}
+use Rattle.uc_worker.specs.Going.{Continues}
 use Rattle.uc_worker.specs.declared.worker.Worker.{Worker}
+use Rattle.uc_worker.specs.contracts.laws.WorkerGoesOn.TheImpl.{continues_self-value, continues_through-value}
 use Rattle.mc_conn.specs.declared.conn.Conn.{Conn}
 use Rattle.mc_conn.specs.declared.conn.TheConstants.{PULL_BYTES, QUEUE_BYTES}
 use Rattle.mc_conn.specs.declared.conn.Role.{Role}
@@ -77,14 +79,15 @@ still_on queue over empty Stuck is going left =
     ⊎_elim (λ (none : queue ≡ []). inl (none, and_left over empty (is ∙ ap (λ bytes. length bytes == 0) none) going)) inr left
 
 -- a pull after a push
-pulls_late : (a between z : Scene) → Takes a between → HoldsNone (holding_of between.conn) → length (queue_of between.conn) ≤ QUEUE_BYTES →
+pulls_late : (a between z : Scene) → Takes a between → Continues between.worker z.worker → HoldsNone (holding_of between.conn) → length (queue_of between.conn) ≤ QUEUE_BYTES →
     (queue_of between.conn ≡ []) × (between.conn.is_over ≡ false) ⊎ (waits between.streams.output.events ≡ waits a.streams.output.events + 1) →
     (event : Event) → z.streams.input.events ≡ event ∷ between.streams.input.events → length (last_moved z.streams.input.events) ≤ PULL_BYTES →
     z.streams.output ≡ between.streams.output → PullsLate a z
-pulls_late a between z first none within left event pull short same = inr (
+pulls_late a between z first onward none within left event pull short same = inr (
   between,
   record {
     first = first;
+    onward = onward;
     taken = none;
     within = within;
     sent = ⊎_elim inl (λ (full : waits between.streams.output.events ≡ waits a.streams.output.events + 1). inr (omega (arith, full))) left;
@@ -98,28 +101,29 @@ pulls_late a between z first none within left event pull short same = inr (
 )
 
 -- a pull after a push, unless memory ran out before it
-pub pulls_once : (a between z : Scene) → Takes a between → between.streams.input ≡ a.streams.input → HoldsNone (holding_of between.conn) → length (queue_of between.conn) ≤ QUEUE_BYTES →
+pub pulls_once : (a between z : Scene) → Takes a between → Continues between.worker z.worker → between.streams.input ≡ a.streams.input → HoldsNone (holding_of between.conn) → length (queue_of between.conn) ≤ QUEUE_BYTES →
     (queue_of between.conn ≡ []) × (between.conn.is_over ≡ false) ⊎ (waits between.streams.output.events ≡ waits a.streams.output.events + 1) →
     PullsOnce between.streams.input z.streams.input → z.streams.output ≡ between.streams.output → Pulls a z
-pulls_once a between z first before none within left once same =
+pulls_once a between z first onward before none within left once same =
     ⊎_elim
     (λ (still : z.streams.input ≡ between.streams.input). record { once = inl (still ∙ before); late = inl (still ∙ before) })
     (λ (pulled : (event : Event) × (z.streams.input.events ≡ event ∷ between.streams.input.events) × (length (last_moved z.streams.input.events) ≤ PULL_BYTES)). record {
       once = inr (pulled.0, pulled.1 ∙ ap (λ (input : Inflow). pulled.0 ∷ input.events) before, pulled.2);
-      late = pulls_late a between z first none within left pulled.0 pulled.1 pulled.2 same;
+      late = pulls_late a between z first onward none within left pulled.0 pulled.1 pulled.2 same;
     })
     once
 
 -- more is sent after the last pull
-late_more : (a n z : Scene) → PullsLate a n → z.streams.input ≡ n.streams.input → (more : List ℕ) → Pushes n.streams.output z.streams.output more →
+late_more : (a n z : Scene) → PullsLate a n → Continues n.worker z.worker → z.streams.input ≡ n.streams.input → (more : List ℕ) → Pushes n.streams.output z.streams.output more →
     waits n.streams.output.events ≤ waits z.streams.output.events → PullsLate a z
-late_more a n z late same more went waited =
+late_more a n z late onward same more went waited =
     ⊎_elim
     (λ (none : n.streams.input ≡ a.streams.input). inl (same ∙ none))
     (λ (pulled : (between : Scene) × PullsAfter a between n). inr (
       pulled.0,
       record {
         first = pulled.1.first;
+        onward = continues_through-value.it _ _ _ pulled.1.onward onward;
         taken = pulled.1.taken;
         within = pulled.1.within;
         sent = pulled.1.sent;
@@ -139,6 +143,7 @@ late_behind a m n between one pulled = inr (
   between,
   record {
     first = takes_trans a m between one pulled.first;
+    onward = pulled.onward;
     taken = pulled.taken;
     within = pulled.within;
     sent = ⊎_elim inl (λ (full : waits m.streams.output.events < waits between.streams.output.events). inr (omega (arith, full, one.taken.waited))) pulled.sent;
@@ -152,27 +157,27 @@ late_behind a m n between one pulled = inr (
 )
 
 -- what is done before a pull and after it
-late_within : (a m n z : Scene) → Takes a m → m.streams.input ≡ a.streams.input → PullsLate m n → z.streams.input ≡ n.streams.input → (more : List ℕ) →
+late_within : (a m n z : Scene) → Takes a m → m.streams.input ≡ a.streams.input → PullsLate m n → Continues n.worker z.worker → z.streams.input ≡ n.streams.input → (more : List ℕ) →
     Pushes n.streams.output z.streams.output more → waits n.streams.output.events ≤ waits z.streams.output.events → PullsLate a z
-late_within a m n z one before late after more went waited =
+late_within a m n z one before late onward after more went waited =
     ⊎_elim
     (λ (none : n.streams.input ≡ m.streams.input). inl (after ∙ (none ∙ before)))
-    (λ (pulled : (between : Scene) × PullsAfter m between n). late_more a n z (late_behind a m n pulled.0 one pulled.1) after more went waited)
+    (λ (pulled : (between : Scene) × PullsAfter m between n). late_more a n z (late_behind a m n pulled.0 one pulled.1) onward after more went waited)
     late
 
-pub pulls_within : (a m n z : Scene) → Takes a m → m.streams.input ≡ a.streams.input → Pulls m n → z.streams.input ≡ n.streams.input → (more : List ℕ) →
+pub pulls_within : (a m n z : Scene) → Takes a m → m.streams.input ≡ a.streams.input → Pulls m n → Continues n.worker z.worker → z.streams.input ≡ n.streams.input → (more : List ℕ) →
     Pushes n.streams.output z.streams.output more → waits n.streams.output.events ≤ waits z.streams.output.events → Pulls a z
-pulls_within a m n z one before pulls after more went waited = record {
+pulls_within a m n z one before pulls onward after more went waited = record {
   once = subst (λ (input : Inflow). PullsOnce a.streams.input input) (sym after) (subst (λ (input : Inflow). PullsOnce input n.streams.input) before pulls.once);
-  late = late_within a m n z one before pulls.late after more went waited;
+  late = late_within a m n z one before pulls.late onward after more went waited;
 }
 
 -- turns after turns
-pub late_later : (a b c : Scene) → Takes a b → PullsLate a b → PullsLate b c → (more : List ℕ) → Pushes b.streams.output c.streams.output more →
+pub late_later : (a b c : Scene) → Takes a b → PullsLate a b → PullsLate b c → Continues b.worker c.worker → (more : List ℕ) → Pushes b.streams.output c.streams.output more →
     waits b.streams.output.events ≤ waits c.streams.output.events → PullsLate a c
-late_later a b c one first second more went waited =
+late_later a b c one first second onward more went waited =
     ⊎_elim
-    (λ (none : c.streams.input ≡ b.streams.input). late_more a b c first none more went waited)
+    (λ (none : c.streams.input ≡ b.streams.input). late_more a b c first onward none more went waited)
     (λ (pulled : (between : Scene) × PullsAfter b between c). late_behind a b c pulled.0 one pulled.1)
     second
 
@@ -194,7 +199,7 @@ late_told : (cause : ConnFault) (a : Scene) (old new : Conn) (worker : Worker) (
     PullsLate a (scene old worker (both input between)) → IsTold cause queue between after → PullsLate a (scene new worker (both input after))
 late_told cause a old new worker input between after queue late told =
     let more = told_pushes cause queue between after told in
-    late_more a (scene old worker (both input between)) (scene new worker (both input after)) late refl more.0 more.1 more.2
+    late_more a (scene old worker (both input between)) (scene new worker (both input after)) late (continues_self-value.it worker) refl more.0 more.1 more.2
 
 -- what is sent up to a fault
 pub stops_push : (fault : Fault) (a b : Scene) → Stops a b fault →

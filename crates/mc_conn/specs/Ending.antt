@@ -7,6 +7,7 @@ use Rattle.mc_stream.specs.Event.{Event, last_moved, waits}
 use Rattle.mc_stream.specs.Pushing.{Pushes}
 use Rattle.mc_stream.specs.Stream.{Inflow, Outflow, both}
 use Rattle.uc_worker.specs.declared.worker.Worker.{Worker}
+use Rattle.uc_worker.specs.Going.{Continues}
 use Rattle.uc_worker.specs.Worker.{IsClosing, announced_of}
 use Rattle.mc_conn.specs.declared.conn.Conn.{Conn}
 use Rattle.mc_conn.specs.declared.conn.Role.{Role}
@@ -60,11 +61,13 @@ HoldsOnlyBehind {before} {after} takes =
     ⊎ (after.conn.waiting ≢ None)
     × (QUEUE_BYTES < length takes.taken.sent + length (queue_of after.conn))
 
--- What was done before the last pull, that pull, and what was sent after it. Before it all requests
--- that had come whole were taken, and no more was queued than may be; and all that is owed for them
--- was sent and none of them had ended the stream, or else the output took no more.
+-- What was done before the last pull, that pull, and what was sent after it; the worker then went on
+-- from where it was. Before it all requests that had come whole were taken, and no more was queued
+-- than may be; and all that is owed for them was sent and none of them had ended the stream, or else
+-- the output took no more.
 pub record PullsAfter (before between after : Scene) : Type 0 where
   pub first : Takes before between
+  pub onward : Continues between.worker after.worker
   pub taken : HoldsNone (holding_of between.conn)
   pub within : length (queue_of between.conn) ≤ QUEUE_BYTES
   pub sent : (queue_of between.conn ≡ []) × (between.conn.is_over ≡ false)

@@ -33,6 +33,7 @@ use Rattle.mc_stream.specs.Event.{moved, waits}
 use Rattle.mc_stream.specs.Pushing.{Pushes}
 use Rattle.mc_stream.specs.Stream.{Streams}
 use Rattle.uc_cells.specs.Sighting.{entries}
+use Rattle.uc_worker.specs.Going.{Continues}
 use Rattle.uc_worker.specs.declared.worker.Worker.{Worker}
 use Rattle.uc_worker.specs.Worker.{HasReplayedAll, history_of, openings_of}
 
@@ -168,7 +169,7 @@ abbrev pub StopsThrough : Type 0
 StopsThrough = (fault : Fault) (a b c : Scene) → Takes a b → Stops b c fault → Stops a c fault
 
 abbrev pub LateThrough : Type 0
-LateThrough = (a b c : Scene) → Takes a b → PullsLate a b → PullsLate b c → (more : List ℕ) → Pushes b.streams.output c.streams.output more →
+LateThrough = (a b c : Scene) → Takes a b → PullsLate a b → PullsLate b c → Continues b.worker c.worker → (more : List ℕ) → Pushes b.streams.output c.streams.output more →
     waits b.streams.output.events ≤ waits c.streams.output.events → PullsLate a c
 
 abbrev pub StopsSend : Type 0
@@ -180,10 +181,10 @@ module _ (start middle : Scene) (takes : Takes start middle) (late : PullsLate s
   serves_on after serves = record { takes = through start middle after takes serves.takes; done = serves.done }
 
   pub serves_on_late : (after : Scene) → Serves middle after → PullsLate middle after → PullsLate start after
-  serves_on_late after serves more = late_through start middle after takes late more serves.takes.taken.sent serves.takes.taken.pushed serves.takes.taken.waited
+  serves_on_late after serves more = late_through start middle after takes late more serves.takes.taken.onward serves.takes.taken.sent serves.takes.taken.pushed serves.takes.taken.waited
 
   pub stops_on : StopsThrough → (fault : Fault) (after : Scene) → Stops middle after fault → Stops start after fault
   stops_on stops fault after stopped = stops fault start middle after takes stopped
 
   pub stops_on_late : StopsSend → (fault : Fault) (after : Scene) → Stops middle after fault → PullsLate middle after → PullsLate start after
-  stops_on_late sends fault after stopped more = let sent = sends fault middle after stopped in late_through start middle after takes late more sent.0 sent.1 sent.2
+  stops_on_late sends fault after stopped more = let sent = sends fault middle after stopped in late_through start middle after takes late more stopped.breaks.taken.onward sent.0 sent.1 sent.2

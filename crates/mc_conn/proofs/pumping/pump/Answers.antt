@@ -22,7 +22,7 @@ loop-preserved-in-Idle g c =
       begun = c.loop.invariant.begun;
       going = takes.shut ∙ c.loop.invariant.going;
       takes = takes_trans _ _ _ c.loop.invariant.takes takes;
-      late = late_later _ _ _ c.loop.invariant.takes c.loop.invariant.late c.turn.ensures.pulls.late _ takes.taken.pushed takes.taken.waited;
+      late = late_later _ _ _ c.loop.invariant.takes c.loop.invariant.late c.turn.ensures.pulls.late takes.taken.onward _ takes.taken.pushed takes.taken.waited;
     }
 
 pub loop-preserved : goal.loop-preserved
@@ -32,15 +32,16 @@ loop-preserved g c =
       begun = c.loop.invariant.begun;
       going = takes.shut ∙ c.loop.invariant.going;
       takes = takes_trans _ _ _ c.loop.invariant.takes takes;
-      late = late_later _ _ _ c.loop.invariant.takes c.loop.invariant.late c.turn.ensures.pulls.late _ takes.taken.pushed takes.taken.waited;
+      late = late_later _ _ _ c.loop.invariant.takes c.loop.invariant.late c.turn.ensures.pulls.late takes.taken.onward _ takes.taken.pushed takes.taken.waited;
     }
 
 pub returns-in_err-turn-clause-late : goal.returns-in_err-turn-clause-late
 returns-in_err-turn-clause-late g c =
-    let more = stops_push c.in_err-turn.field-0.0 _ _ (c.in_err-turn.ensures.outcome c.loop.invariant.going) in
-    late_later _ _ _ c.loop.invariant.takes c.loop.invariant.late c.turn.ensures.pulls.late more.0 more.1 more.2
+    let stopped = c.in_err-turn.ensures.outcome c.loop.invariant.going in
+    let more = stops_push c.in_err-turn.field-0.0 _ _ stopped in
+    late_later _ _ _ c.loop.invariant.takes c.loop.invariant.late c.turn.ensures.pulls.late stopped.breaks.taken.onward more.0 more.1 more.2
 
 pub returns-in-Closed-clause-late : goal.returns-in-Closed-clause-late
 returns-in-Closed-clause-late g c =
     let taken = (c.in_ok-turn.ensures.outcome c.loop.invariant.going).takes.taken in
-    late_later _ _ _ c.loop.invariant.takes c.loop.invariant.late c.turn.ensures.pulls.late _ taken.pushed taken.waited
+    late_later _ _ _ c.loop.invariant.takes c.loop.invariant.late c.turn.ensures.pulls.late taken.onward _ taken.pushed taken.waited

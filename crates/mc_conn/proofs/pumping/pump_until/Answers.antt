@@ -21,7 +21,7 @@ returns-in-Full-clause-outcome g c begun = serves_full _ _ _ _ c.loop.invariant.
 pub returns-in-Full-clause-late : goal.returns-in-Full-clause-late
 returns-in-Full-clause-late g c =
     let taken = (c.in_ok-turn_until.ensures.outcome c.loop.invariant.going).takes.taken in
-    late_later _ _ _ c.loop.invariant.takes c.loop.invariant.late c.turn_until.ensures.pulls.late _ taken.pushed taken.waited
+    late_later _ _ _ c.loop.invariant.takes c.loop.invariant.late c.turn_until.ensures.pulls.late taken.onward _ taken.pushed taken.waited
 
 pub loop-preserved-in-Idle : goal.loop-preserved-in-Idle
 loop-preserved-in-Idle g c =
@@ -32,7 +32,7 @@ loop-preserved-in-Idle g c =
       going = takes.shut ∙ c.loop.invariant.going;
       takes = takes_trans _ _ _ c.loop.invariant.takes takes;
       in_time = in_time_trans _ _ _ c.loop.invariant.takes takes c.loop.invariant.in_time turned.in_time;
-      late = late_later _ _ _ c.loop.invariant.takes c.loop.invariant.late c.turn_until.ensures.pulls.late _ takes.taken.pushed takes.taken.waited;
+      late = late_later _ _ _ c.loop.invariant.takes c.loop.invariant.late c.turn_until.ensures.pulls.late takes.taken.onward _ takes.taken.pushed takes.taken.waited;
     }
 
 pub loop-preserved : goal.loop-preserved
@@ -44,15 +44,16 @@ loop-preserved g c =
       going = takes.shut ∙ c.loop.invariant.going;
       takes = takes_trans _ _ _ c.loop.invariant.takes takes;
       in_time = in_time_trans _ _ _ c.loop.invariant.takes takes c.loop.invariant.in_time turned.in_time;
-      late = late_later _ _ _ c.loop.invariant.takes c.loop.invariant.late c.turn_until.ensures.pulls.late _ takes.taken.pushed takes.taken.waited;
+      late = late_later _ _ _ c.loop.invariant.takes c.loop.invariant.late c.turn_until.ensures.pulls.late takes.taken.onward _ takes.taken.pushed takes.taken.waited;
     }
 
 pub returns-in_err-turn_until-clause-late : goal.returns-in_err-turn_until-clause-late
 returns-in_err-turn_until-clause-late g c =
-    let more = stops_push c.in_err-turn_until.field-0.0 _ _ (c.in_err-turn_until.ensures.outcome c.loop.invariant.going) in
-    late_later _ _ _ c.loop.invariant.takes c.loop.invariant.late c.turn_until.ensures.pulls.late more.0 more.1 more.2
+    let stopped = c.in_err-turn_until.ensures.outcome c.loop.invariant.going in
+    let more = stops_push c.in_err-turn_until.field-0.0 _ _ stopped in
+    late_later _ _ _ c.loop.invariant.takes c.loop.invariant.late c.turn_until.ensures.pulls.late stopped.breaks.taken.onward more.0 more.1 more.2
 
 pub returns-in-Closed-clause-late : goal.returns-in-Closed-clause-late
 returns-in-Closed-clause-late g c =
     let taken = (c.in_ok-turn_until.ensures.outcome c.loop.invariant.going).takes.taken in
-    late_later _ _ _ c.loop.invariant.takes c.loop.invariant.late c.turn_until.ensures.pulls.late _ taken.pushed taken.waited
+    late_later _ _ _ c.loop.invariant.takes c.loop.invariant.late c.turn_until.ensures.pulls.late taken.onward _ taken.pushed taken.waited

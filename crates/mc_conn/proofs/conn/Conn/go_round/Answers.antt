@@ -2,6 +2,7 @@ use Rattle.std.proofs.Common.{[], refl, sym, inl, append-nil, arith}
 use Rattle.std.proofs.lemmas.Result.{err_from_is_err_and}
 use Rattle.mc_stream.specs.Stream.{both}
 use Rattle.mc_conn.specs.Turn.{scene}
+use Rattle.uc_worker.specs.contracts.laws.WorkerGoesOn.TheImpl.{continues_self-value}
 use Rattle.mc_conn.proofs.Breakings.{breaks_later}
 use Rattle.mc_conn.proofs.Endings.{goes_round, pulls_within}
 use Rattle.mc_conn.proofs.Takings.{does_trans}
@@ -44,21 +45,21 @@ returns-in_err-taken-clause-pulls g c = record { once = inl refl; late = inl ref
 
 pub returns-in_err-pulled-clause-pulls : goal.returns-in_err-pulled-clause-pulls
 returns-in_err-pulled-clause-pulls g c =
-    pulls_within _ _ _ _ (does_trans _ _ _ _ _ _ (c.in_ok-first.ensures.outcome c.args.until_done _ _) (c.in_ok-taken.ensures.outcome _)).takes refl c.pull_and_take.ensures.pulls refl [] (sym (append-nil _)) (omega arith)
+    pulls_within _ _ _ _ (does_trans _ _ _ _ _ _ (c.in_ok-first.ensures.outcome c.args.until_done _ _) (c.in_ok-taken.ensures.outcome _)).takes refl c.pull_and_take.ensures.pulls (continues_self-value.it _) refl [] (sym (append-nil _)) (omega arith)
 
 pub returns-in_err-last-clause-pulls : goal.returns-in_err-last-clause-pulls
 returns-in_err-last-clause-pulls g c =
     let input = g.I.Input.tells c.pull_and_take.new.input in
     let broken = (c.in_err-last.ensures.outcome c.pull_and_take.new.worker input).taken in
     pulls_within _ _ (scene c.pull_and_take.new.self c.pull_and_take.new.worker (both input (g.O.Output.tells c.pull_and_take.new.output))) _
-    (does_trans _ _ _ _ _ _ (c.in_ok-first.ensures.outcome c.args.until_done _ _) (c.in_ok-taken.ensures.outcome _)).takes refl c.pull_and_take.ensures.pulls refl broken.sent broken.pushed broken.waited
+    (does_trans _ _ _ _ _ _ (c.in_ok-first.ensures.outcome c.args.until_done _ _) (c.in_ok-taken.ensures.outcome _)).takes refl c.pull_and_take.ensures.pulls broken.onward refl broken.sent broken.pushed broken.waited
 
 pub returns-clause-pulls : goal.returns-clause-pulls
 returns-clause-pulls g c =
     let input = g.I.Input.tells c.pull_and_take.new.input in
     let last = (c.in_ok-last.ensures.outcome c.args.until_done c.pull_and_take.new.worker input).takes.taken in
     pulls_within _ _ (scene c.pull_and_take.new.self c.pull_and_take.new.worker (both input (g.O.Output.tells c.pull_and_take.new.output))) _
-    (does_trans _ _ _ _ _ _ (c.in_ok-first.ensures.outcome c.args.until_done _ _) (c.in_ok-taken.ensures.outcome _)).takes refl c.pull_and_take.ensures.pulls refl last.sent last.pushed last.waited
+    (does_trans _ _ _ _ _ _ (c.in_ok-first.ensures.outcome c.args.until_done _ _) (c.in_ok-taken.ensures.outcome _)).takes refl c.pull_and_take.ensures.pulls last.onward refl last.sent last.pushed last.waited
 
 pub returns-in_err-first-clause-tally : goal.returns-in_err-first-clause-tally
 returns-in_err-first-clause-tally g c = tallies_same _ _ _ c.in_err-first.ensures.same.past

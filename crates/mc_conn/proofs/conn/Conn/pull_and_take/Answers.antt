@@ -2,6 +2,7 @@ use Rattle.std.proofs.Common.{refl, ◌∙◌}
 use Rattle.std.proofs.lemmas.Result.{err_from_is_err_and}
 use Rattle.mc_stream.specs.Stream.{both}
 use Rattle.mc_conn.specs.Turn.{queue_of, scene}
+use Rattle.uc_worker.specs.contracts.laws.WorkerGoesOn.TheImpl.{continues_self-value}
 use Rattle.mc_conn.proofs.Breakings.{breaks_later}
 use Rattle.mc_conn.proofs.Endings.{none_held, pulls_once, still_on, within_bound}
 use Rattle.mc_conn.proofs.Takings.{does_nothing, does_trans}
@@ -42,7 +43,7 @@ returns-in_err-pulled-clause-pulls g c =
     let within = within_bound (queue_of c.args.self.now) (queue_of c.push.new.self) c.len.result _ _ c.len.ensures c.if-is_some-len.false c.push.ensures.within in
     let left = still_on (queue_of c.push.new.self) c.push.new.self.is_over c.is_empty.result _ c.is_empty.ensures c.if-self-is_empty.false c.in_ok-pushed.ensures.left in
     pulls_once _ (scene c.push.new.self c.args.worker.now (both (g.I.Input.tells c.args.input.now) (g.O.Output.tells c.push.new.output))) _ (c.in_ok-pushed.ensures.outcome c.args.until_done _ _).takes
-    refl none within left c.pull.ensures.once refl
+    (continues_self-value.it _) refl none within left c.pull.ensures.once refl
 
 pub returns-in_err-taken-clause-pulls : goal.returns-in_err-taken-clause-pulls
 returns-in_err-taken-clause-pulls g c =
@@ -52,7 +53,7 @@ returns-in_err-taken-clause-pulls g c =
     let within = within_bound (queue_of c.args.self.now) (queue_of c.push.new.self) c.len.result _ _ c.len.ensures c.if-is_some-len.false c.push.ensures.within in
     let left = still_on (queue_of c.push.new.self) c.push.new.self.is_over c.is_empty.result _ c.is_empty.ensures c.if-self-is_empty.false c.in_ok-pushed.ensures.left in
     pulls_once _ (scene c.push.new.self c.args.worker.now (both (g.I.Input.tells c.args.input.now) (g.O.Output.tells c.push.new.output))) _ (c.in_ok-pushed.ensures.outcome c.args.until_done _ _).takes
-    refl none within left c.pull.ensures.once refl
+    c.in_err-taken.ensures.keeps.onward refl none within left c.pull.ensures.once refl
 
 pub returns-clause-pulls : goal.returns-clause-pulls
 returns-clause-pulls g c =
@@ -62,7 +63,7 @@ returns-clause-pulls g c =
     let within = within_bound (queue_of c.args.self.now) (queue_of c.push.new.self) c.len.result _ _ c.len.ensures c.if-is_some-len.false c.push.ensures.within in
     let left = still_on (queue_of c.push.new.self) c.push.new.self.is_over c.is_empty.result _ c.is_empty.ensures c.if-self-is_empty.false c.in_ok-pushed.ensures.left in
     pulls_once _ (scene c.push.new.self c.args.worker.now (both (g.I.Input.tells c.args.input.now) (g.O.Output.tells c.push.new.output))) _ (c.in_ok-pushed.ensures.outcome c.args.until_done _ _).takes
-    refl none within left c.pull.ensures.once refl
+    c.in_ok-taken.ensures.keeps.onward refl none within left c.pull.ensures.once refl
 
 pub returns-then-is_some-len-clause-tally : goal.returns-then-is_some-len-clause-tally
 returns-then-is_some-len-clause-tally g c = tallies_self _ _
