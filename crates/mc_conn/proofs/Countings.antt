@@ -1,5 +1,5 @@
 -- Lemmas on what is counted of requests.
-use Rattle.std.proofs.Common.{◌≡◌, ◌≢◌, ℕ, cond, List, [], ◌∷◌, ◌++◌, Option, Some, None, Bool, sym, refl, ap, ◌∙◌, subst, arith, append-nil, append_assoc, sum_by}
+use Rattle.std.proofs.Common.{◌≡◌, ◌≢◌, ℕ, cond, List, [], ◌∷◌, ◌++◌, Option, Some, None, Bool, false, sym, refl, ap, ◌∙◌, subst, arith, append-nil, append_assoc, sum_by}
 use Rattle.std.proofs.lemmas.List.Sums.{sum_by-cons, sum_by_push}
 use Rattle.mc_counters.specs.Kinds.{asked_for_by}
 use Rattle.mc_counters.specs.Tallied.{CountedRequest, IsTallyOf, capped, is_of_kind, is_refused, items_found, keys_missed}
@@ -11,6 +11,8 @@ use Rattle.mc_model.specs.declared.command.Command.TheVariants as command
 use Rattle.mc_model.specs.declared.fault.Fault.{Fault}
 use Rattle.mc_model.specs.declared.fault.Fault.TheVariants.{BadEvent, BadSettings, Input, LogFull, Memory, Output, Taken}
 use Rattle.mc_model.specs.declared.reply.Reply.{Reply}
+use Rattle.mc_model.specs.declared.reply.Reply.TheVariants.{Refused}
+use Rattle.mc_model.specs.declared.reply.TheConstants.WireNo.{BAD_FORMAT, LINE_TOO_LONG, UNKNOWN_COMMAND}
 use Rattle.mc_model.specs.declared.request.Request.{Request}
 use Rattle.mc_model.specs.declared.request.Request.TheVariants.{Limit, Local, Logged, Quit, TooLong}
 use Rattle.mc_model.specs.declared.settings.Limits.{Limits}
@@ -18,7 +20,7 @@ use Rattle.mc_conn.specs.declared.conn.Role.{Role}
 use Rattle.mc_conn.specs.declared.conn.Role.TheVariants.{Admin, Tenant}
 use Rattle.mc_conn.specs.Owed.{answered, setting_of}
 use Rattle.mc_conn.specs.Parts.{Counts, GivesReply}
-use Rattle.mc_conn.specs.Tallying.{AreTallied, CountsFor, HasCounted, HasCountedTo, asked_for, counted_at}
+use Rattle.mc_conn.specs.Tallying.{AreTallied, CountsFor, HasCounted, HasCountedTo, IsOwedWith, asked_for, counted_at}
 
 -- one request
 pub counted_one : (role : Role) (request : Request) (bytes : List ℕ) (counted : List CountedRequest) → CountsFor role request bytes counted → AreTallied role (request ∷ []) bytes counted
@@ -89,46 +91,60 @@ tallies_one one before after old new past counts = record {
 }
 
 -- a reply was given to a request that is counted by it
-counts_given : (role : Role) (request : Request) (asked : Option Asked) (before after : List ℕ) (old new : List CountedRequest) →
-    ((quiet : Bool) (reply : Reply) → CountsFor role request (answered quiet reply) (record { asked = asked; reply = reply } ∷ [])) → GivesReply asked before after old new →
-    Counts role request before after old new
-counts_given role request asked before after old new fits gives = record {
-  bytes = answered gives.quiet gives.reply;
-  counted = record { asked = asked; reply = gives.reply } ∷ [];
+counts_given : (role : Role) (request : Request) (asked : Option Asked) (quiet : Bool) (reply : Reply) (before after : List ℕ) (old new : List CountedRequest) →
+    CountsFor role request (answered quiet reply) (record { asked = asked; reply = reply } ∷ []) → GivesReply asked quiet reply before after old new → Counts role request before after old new
+counts_given role request asked quiet reply before after old new fits gives = record {
+  bytes = answered quiet reply;
+  counted = record { asked = asked; reply = reply } ∷ [];
   queued = gives.queued;
   past = gives.past;
-  is = fits gives.quiet gives.reply;
+  is = fits;
 }
 
 module _ (before after : List ℕ) (old new : List CountedRequest) where
-  pub counts_logged : (tenant : ℕ) (asks : Command) (quiet : Bool) → GivesReply (Some (asked_for_by asks)) before after old new →
+  pub counts_logged : (tenant : ℕ) (asks : Command) (quiet : Bool) (reply : Reply) → GivesReply (Some (asked_for_by asks)) quiet reply before after old new →
       Counts (Tenant tenant) (Logged asks quiet) before after old new
-  counts_logged tenant asks quiet = counts_given (Tenant tenant) (Logged asks quiet) (Some (asked_for_by asks)) before after old new (λ silent reply. (silent, reply, refl, refl))
+  counts_logged tenant asks quiet reply = counts_given (Tenant tenant) (Logged asks quiet) (Some (asked_for_by asks)) quiet reply before after old new (reply, refl, refl)
 
-  pub counts_unknown : (names : List (List ℕ)) (asks : Command) (quiet : Bool) → GivesReply None before after old new → Counts (Admin names) (Logged asks quiet) before after old new
-  counts_unknown names asks quiet = counts_given (Admin names) (Logged asks quiet) None before after old new (λ silent reply. (silent, reply, refl, refl))
+  pub counts_unknown : (names : List (List ℕ)) (asks : Command) (quiet : Bool) → GivesReply None quiet (Refused UNKNOWN_COMMAND) before after old new →
+      Counts (Admin names) (Logged asks quiet) before after old new
+  counts_unknown names asks quiet =
+      counts_given (Admin names) (Logged asks quiet) None quiet (Refused UNKNOWN_COMMAND) before after old new (Refused UNKNOWN_COMMAND, (refl, quiet, refl), refl)
 
-  pub counts_tenants_limit : (tenant : ℕ) (name : List ℕ) (limits : Limits) (quiet : Bool) → GivesReply None before after old new →
+  pub counts_tenants_limit : (tenant : ℕ) (name : List ℕ) (limits : Limits) (quiet : Bool) → GivesReply None quiet (Refused UNKNOWN_COMMAND) before after old new →
       Counts (Tenant tenant) (Limit name limits quiet) before after old new
-  counts_tenants_limit tenant name limits quiet = counts_given (Tenant tenant) (Limit name limits quiet) None before after old new (λ silent reply. (silent, reply, refl, refl))
+  counts_tenants_limit tenant name limits quiet =
+      counts_given (Tenant tenant) (Limit name limits quiet) None quiet (Refused UNKNOWN_COMMAND) before after old new (Refused UNKNOWN_COMMAND, (refl, quiet, refl), refl)
 
-  pub counts_setting : (names : List (List ℕ)) (name : List ℕ) (limits : Limits) (quiet : Bool) (tenant : ℕ) → tenant_named names name ≡ Some tenant →
-      GivesReply (Some (asked_for_by (command.Limit limits))) before after old new → Counts (Admin names) (Limit name limits quiet) before after old new
-  counts_setting names name limits quiet tenant is = counts_given (Admin names) (Limit name limits quiet) (Some (asked_for_by (command.Limit limits))) before after old new
-      (λ silent reply. (silent, reply, refl, ap (λ named. record { asked = asked_for (setting_of named limits quiet); reply = reply } ∷ []) (sym is)))
+  pub counts_setting : (names : List (List ℕ)) (name : List ℕ) (limits : Limits) (quiet : Bool) (tenant : ℕ) (reply : Reply) → tenant_named names name ≡ Some tenant →
+      GivesReply (Some (asked_for_by (command.Limit limits))) quiet reply before after old new → Counts (Admin names) (Limit name limits quiet) before after old new
+  counts_setting names name limits quiet tenant reply is =
+      let asked = Some (asked_for_by (command.Limit limits)) in
+      counts_given (Admin names) (Limit name limits quiet) asked quiet reply before after old new
+      (
+        reply,
+        subst (λ named. IsOwedWith (setting_of named limits quiet) reply (answered quiet reply)) (sym is) refl,
+        ap (λ named. record { asked = asked_for (setting_of named limits quiet); reply = reply } ∷ []) (sym is),
+      )
 
   pub counts_unnamed : (names : List (List ℕ)) (name : List ℕ) (limits : Limits) (quiet : Bool) → tenant_named names name ≡ None →
-      GivesReply None before after old new → Counts (Admin names) (Limit name limits quiet) before after old new
-  counts_unnamed names name limits quiet is = counts_given (Admin names) (Limit name limits quiet) None before after old new
-      (λ silent reply. (silent, reply, refl, ap (λ named. record { asked = asked_for (setting_of named limits quiet); reply = reply } ∷ []) (sym is)))
+      GivesReply None false (Refused BAD_FORMAT) before after old new → Counts (Admin names) (Limit name limits quiet) before after old new
+  counts_unnamed names name limits quiet is =
+      let refusal = Refused BAD_FORMAT in
+      counts_given (Admin names) (Limit name limits quiet) None false refusal before after old new
+      (
+        refusal,
+        subst (λ named. IsOwedWith (setting_of named limits quiet) refusal (answered false refusal)) (sym is) (refl, false, refl),
+        ap (λ named. record { asked = asked_for (setting_of named limits quiet); reply = refusal } ∷ []) (sym is),
+      )
 
-  pub counts_local : (role : Role) (said : Reply) (quiet : Bool) → GivesReply None before after old new → Counts role (Local said quiet) before after old new
-  counts_local (Tenant tenant) said quiet = counts_given (Tenant tenant) (Local said quiet) None before after old new (λ silent reply. (silent, reply, refl, refl))
-  counts_local (Admin names) said quiet = counts_given (Admin names) (Local said quiet) None before after old new (λ silent reply. (silent, reply, refl, refl))
+  pub counts_local : (role : Role) (said : Reply) (quiet : Bool) → GivesReply None quiet said before after old new → Counts role (Local said quiet) before after old new
+  counts_local (Tenant tenant) said quiet = counts_given (Tenant tenant) (Local said quiet) None quiet said before after old new (said, (refl, quiet, refl), refl)
+  counts_local (Admin names) said quiet = counts_given (Admin names) (Local said quiet) None quiet said before after old new (said, (refl, quiet, refl), refl)
 
-  pub counts_long : (role : Role) → GivesReply None before after old new → Counts role TooLong before after old new
-  counts_long (Tenant tenant) = counts_given (Tenant tenant) TooLong None before after old new (λ silent reply. (silent, reply, refl, refl))
-  counts_long (Admin names) = counts_given (Admin names) TooLong None before after old new (λ silent reply. (silent, reply, refl, refl))
+  pub counts_long : (role : Role) → GivesReply None false (Refused LINE_TOO_LONG) before after old new → Counts role TooLong before after old new
+  counts_long (Tenant tenant) = counts_given (Tenant tenant) TooLong None false (Refused LINE_TOO_LONG) before after old new (Refused LINE_TOO_LONG, (refl, false, refl), refl)
+  counts_long (Admin names) = counts_given (Admin names) TooLong None false (Refused LINE_TOO_LONG) before after old new (Refused LINE_TOO_LONG, (refl, false, refl), refl)
 
 -- nothing is counted for quit
 pub counts_quit : (role : Role) (queue : List ℕ) (past : List CountedRequest) → Counts role Quit queue queue past past

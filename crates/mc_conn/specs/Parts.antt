@@ -49,12 +49,10 @@ pub record Responds (old new : Worker) (role : Role) (request : Request)
   pub queued : after ≡ before ++ bytes
   pub owes : Owes new role (mark_of old) (request ∷ []) bytes (mark_of new)
 
--- a reply was given to a request: its text was queued, unless the request is quiet, and the request
--- is counted by it and by what its command asks for
-pub record GivesReply (asked : Option Asked) (before after : List ℕ)
+-- this reply was given to a request: its text was queued, unless the request is quiet, and the
+-- request is counted by it and by what its command asks for
+pub record GivesReply (asked : Option Asked) (quiet : Bool) (reply : Reply) (before after : List ℕ)
     (old new : List CountedRequest) : Type 0 where
-  pub quiet : Bool
-  pub reply : Reply
   pub queued : after ≡ before ++ answered quiet reply
   pub past : new ≡ old ++ record { asked = asked; reply = reply } ∷ []
 

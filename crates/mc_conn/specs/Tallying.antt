@@ -20,12 +20,19 @@ abbrev pub asked_for : Demand → Option Asked
 asked_for (Logs tenant command quiet) = Some (asked_for_by command)
 asked_for (Says said) = None
 
--- What is counted for a request to which these bytes are owed: one reply, whose text they are,
--- unless the request says noreply; and nothing for quit, which gets no reply.
+-- The bytes are what is owed for a demand that gets this reply: its text, or nothing if the request
+-- says noreply.
+abbrev pub IsOwedWith : Demand → Reply → List ℕ → Type 0
+IsOwedWith (Logs tenant command quiet) reply bytes = bytes ≡ answered quiet reply
+IsOwedWith (Says said) reply bytes =
+    (bytes ≡ said) × (quiet : Bool) × (said ≡ answered quiet reply)
+
+-- what is counted for a request to which these bytes are owed: one reply, with which they are what
+-- the request comes to; and nothing for quit, which gets no reply
 abbrev pub CountsFor : Role → Request → List ℕ → List CountedRequest → Type 0
 CountsFor role Quit bytes counted = (bytes ≡ []) × (counted ≡ [])
 CountsFor role request bytes counted =
-    (quiet : Bool) × (reply : Reply) × (bytes ≡ answered quiet reply)
+    (reply : Reply) × IsOwedWith (demand_of role request) reply bytes
     × (counted ≡ record { asked = asked_for (demand_of role request); reply = reply } ∷ [])
 
 -- what is counted for requests to which these bytes are owed, one after another

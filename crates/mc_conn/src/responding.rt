@@ -2,7 +2,8 @@
 ghost use Rattle.std.specs.Prelude.{◌≡◌, ◌<◌, ◌++◌, length, MatchResult, None, Some};
 ghost use Rattle.mc_counters.specs.Kinds.{asked_for_by};
 ghost use Rattle.mc_model.specs.declared.fault.Fault.TheVariants as faults;
-ghost use Rattle.mc_model.specs.declared.reply.Reply.TheVariants as Reply;
+ghost use Rattle.mc_model.specs.declared.reply.Reply.{Reply};
+ghost use Rattle.mc_model.specs.declared.reply.Reply.TheVariants.{Refused};
 ghost use Rattle.mc_model.specs.declared.request.Request.TheVariants as Request;
 ghost use Rattle.mc_conn.specs.declared.conn.Role.TheVariants as Role;
 ghost use Rattle.uc_worker.specs.Worker.{tenants_of};
@@ -69,7 +70,7 @@ fn reply_and_count(
     ensures queued { MatchResult result (λ _. queue.new ≡ queue.old ++ answered quiet reply.now)
         (λ fault. (fault ≡ faults.Memory) × (queue.new ≡ queue.old)) }
     ensures counts { MatchResult result
-        (λ _. GivesReply asked.now queue.old queue.new past.old past.new)
+        (λ _. GivesReply asked.now quiet reply.now queue.old queue.new past.old past.new)
         (λ _. past.new ≡ past.old) }
     ensures tally { HasCounted past.old past.new tally.old tally.new }
 {
@@ -90,10 +91,10 @@ fn refuse(
     tally: &mut Tally,
 ) -> Result<(), Fault>
     ensures queued { MatchResult result
-        (λ _. queue.new ≡ queue.old ++ answered quiet (Reply.Refused refusal))
+        (λ _. queue.new ≡ queue.old ++ answered quiet (Refused refusal))
         (λ fault. (fault ≡ faults.Memory) × (queue.new ≡ queue.old)) }
     ensures counts { MatchResult result
-        (λ _. GivesReply None queue.old queue.new past.old past.new)
+        (λ _. GivesReply None quiet (Refused refusal) queue.old queue.new past.old past.new)
         (λ _. past.new ≡ past.old) }
     ensures tally { HasCounted past.old past.new tally.old tally.new }
 {
@@ -122,8 +123,8 @@ fn respond_by_log<G: Gate>(
         (λ _. Responds worker.old worker.new role request queue.old queue.new)
         (Refuses worker.old worker.new role request queue.old queue.new) }
     ensures counts { MatchResult result
-        (λ _. GivesReply (Some (asked_for_by command)) queue.old queue.new past.old
-        past.new) (λ _. past.new ≡ past.old) }
+        (λ _. (reply : Reply) × GivesReply (Some (asked_for_by command)) quiet reply queue.old
+        queue.new past.old past.new) (λ _. past.new ≡ past.old) }
     ensures tally { HasCounted past.old past.new tally.old tally.new }
 {
     let asked = Some(Asked::by(&command));

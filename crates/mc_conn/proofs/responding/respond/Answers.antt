@@ -13,7 +13,7 @@ respond_by_log-requires-in-Some g c =
 
 pub returns-in-Tenant-clause-counts : goal.returns-in-Tenant-clause-counts
 returns-in-Tenant-clause-counts g c = rw (c.in-Tenant.is, c.in-Logged.is)
-    (match_map c.respond_by_log.result _ _ _ _ (λ x gives. counts_logged _ _ _ _ c.in-Tenant.tenant c.in-Logged.command c.in-Logged.quiet gives) (λ x same. same) c.respond_by_log.ensures.counts)
+    (match_map c.respond_by_log.result _ _ _ _ (λ x gives. counts_logged _ _ _ _ c.in-Tenant.tenant c.in-Logged.command c.in-Logged.quiet gives.0 gives.1) (λ x same. same) c.respond_by_log.ensures.counts)
 
 pub returns-in-Logged-clause-counts : goal.returns-in-Logged-clause-counts
 returns-in-Logged-clause-counts g c = rw (c.in-Admin.is, c.in-Logged.is)
@@ -26,7 +26,7 @@ returns-in-Tenant-role-clause-counts g c = rw (c.in-Tenant-role.is, c.in-Limit.i
 pub returns-in-Some-clause-counts : goal.returns-in-Some-clause-counts
 returns-in-Some-clause-counts g c = rw (c.in-Admin-role.is, c.in-Limit.is)
     (match_map c.respond_by_log-in-Some.result _ _ _ _
-    (λ x gives. counts_setting _ _ _ _ c.in-Admin-role.names c.in-Limit.name c.in-Limit.limits c.in-Limit.quiet c.in-Some.tenant (sym c.tenant.ensures ∙ c.in-Some.is) gives) (λ x same. same)
+    (λ x gives. counts_setting _ _ _ _ c.in-Admin-role.names c.in-Limit.name c.in-Limit.limits c.in-Limit.quiet c.in-Some.tenant gives.0 (sym c.tenant.ensures ∙ c.in-Some.is) gives.1) (λ x same. same)
     c.respond_by_log-in-Some.ensures.counts)
 
 pub returns-in-Limit-clause-counts : goal.returns-in-Limit-clause-counts
