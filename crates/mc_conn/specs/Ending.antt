@@ -61,10 +61,10 @@ HoldsOnlyBehind {before} {after} takes =
     ⊎ (after.conn.waiting ≢ None)
     × (QUEUE_BYTES < length takes.taken.sent + length (queue_of after.conn))
 
--- What was done before the last pull, that pull, and what was sent after it; the worker then went on
--- from where it was. Before it all requests that had come whole were taken, and no more was queued
--- than may be; and all that is owed for them was sent and none of them had ended the stream, or else
--- the output took no more.
+-- What was done before the last pull, that pull, and what was sent after it; the worker only went
+-- on from there. Before it all requests that had come whole were taken, and no more was queued than
+-- may be; and all that is owed for them was sent and none of them had ended the stream, or else the
+-- output took no more.
 pub record PullsAfter (before between after : Scene) : Type 0 where
   pub first : Takes before between
   pub onward : Continues between.worker after.worker

@@ -98,8 +98,8 @@ pub fn turns_add_up()
     ensures through { (a b c : Scene) → Takes a b → Takes b c → Takes a c }
     ensures stops { (fault : Fault) (a b c : Scene) → Takes a b → Stops b c fault →
         Stops a c fault }
-    // So do turns that pull late, if what is done after them only sends and the worker goes on in it,
-    // as `Takes` and `Stops` say.
+    // So do turns that pull late, if what is done after them only sends, and the worker goes on
+    // meanwhile, as `Takes` and `Stops` say.
     ensures late { (a b c : Scene) → Takes a b → PullsLate a b → PullsLate b c →
         Continues b.worker c.worker → (more : List ℕ) →
         Pushes b.streams.output c.streams.output more →
