@@ -18,7 +18,6 @@ use Rattle.mc_model.specs.State.{TableState, empty_table}
 use Rattle.model_lemmas.proofs.Histories.{state_from-more}
 use Rattle.model_lemmas.proofs.Replays.{EachStands-length}
 use Rattle.mc_conn.specs.Alone.{IsAloneOver, commands_of, first_mark, owed_after}
-use Rattle.mc_conn.specs.declared.conn.Conn.{Conn}
 use Rattle.mc_conn.specs.declared.conn.Role.TheVariants.{Tenant}
 use Rattle.mc_read.specs.Line.{asked}
 use Rattle.mc_read.specs.Reading.{ReadsAs}
@@ -34,7 +33,6 @@ use Rattle.mc_stream.specs.Pushing.{Pushes}
 use Rattle.mc_stream.specs.Stream.{Streams}
 use Rattle.uc_cells.specs.Sighting.{entries}
 use Rattle.uc_worker.specs.Going.{Continues}
-use Rattle.uc_worker.specs.declared.worker.Worker.{Worker}
 use Rattle.uc_worker.specs.Worker.{HasReplayedAll, history_of, openings_of}
 
 commands-append : (first second : List Request) → commands_of (first ++ second) ≡ commands_of first ++ commands_of second
