@@ -4,7 +4,7 @@ ghost use Rattle.std.specs.Option.{option_map};
 ghost use Rattle.mc_model.specs.History.{state_from};
 ghost use Rattle.mc_model.specs.Lawful.{HasRoom};
 ghost use Rattle.mc_model.specs.Log.{own};
-ghost use Rattle.mc_model.specs.Replay.{HaveRoom};
+ghost use Rattle.mc_model.specs.Replay.{EachStands, HaveRoom};
 ghost use Rattle.uc_cells.specs.Sighting.{entries};
 ghost use Rattle.uc_worker.specs.Histories.{AreDecided, Follows, KnowsItsOwn, LacksAtMostOne};
 ghost use Rattle.uc_worker.specs.Worker.{HasReplayedAll, IsClosing, announced_of, history_of, openings_of, seat_of, tables_of, tenants_of};
@@ -49,6 +49,9 @@ impl<'a> Worker<'a> {
         // are decided there.
         ensures reached { LastIsReached (seat_of self.now) }
         ensures decided { AreDecided (seat_of self.now).last (history_of self.now) }
+        // Each tenant's table is its opening after that tenant's own commands in the history.
+        ensures stands { EachStands (openings_of self.now) (entries (history_of self.now))
+            (tables_of self.now) }
     {
         self.replica.history()
     }
