@@ -33,15 +33,24 @@ use Rattle.mc_stream.specs.Pushing.{Pushes}
 use Rattle.mc_stream.specs.Stream.{Streams}
 use Rattle.uc_cells.specs.Sighting.{entries}
 use Rattle.uc_worker.specs.Going.{Continues}
-use Rattle.uc_worker.specs.Worker.{HasReplayedAll, history_of, openings_of}
+use Rattle.uc_worker.specs.Worker.{HasReplayedAll, history_of, openings_of, tables_of}
 
-commands-append : (first second : List Request) → commands_of (first ++ second) ≡ commands_of first ++ commands_of second
+pub commands-append : (first second : List Request) → commands_of (first ++ second) ≡ commands_of first ++ commands_of second
 commands-append [] second = refl
 commands-append (Logged command quiet ∷ first) second = ap (λ (list : List Command). command ∷ list) (commands-append first second)
 commands-append (Limit name quotas quiet ∷ first) second = commands-append first second
 commands-append (Local reply quiet ∷ first) second = commands-append first second
 commands-append (Quit ∷ first) second = commands-append first second
 commands-append (TooLong ∷ first) second = commands-append first second
+
+-- the table that stands for a log of one tenant
+pub tables_one : (openings tables : List TableState) (log : List (Option Entry)) (opening : TableState) → openings ≡ opening ∷ [] → EachStands openings log tables → tables ≡ state_from opening (own 0 log) ∷ []
+tables_one openings tables log opening one stands = by_tables tables (EachStands-length openings log tables stands ∙ ap length one) (stands 0 ∙ ap (λ list. option_map (λ it. state_from it (own 0 log)) (slice_get list 0)) one)
+  where
+    by_tables : (some : List TableState) → length some ≡ 1 → slice_get some 0 ≡ Some (state_from opening (own 0 log)) → some ≡ state_from opening (own 0 log) ∷ []
+    by_tables [] long at = absurd (omega (arith, long))
+    by_tables (table ∷ []) long at = ap (λ it. it ∷ []) (same_Some table _ at)
+    by_tables (table ∷ other ∷ more) long at = absurd (omega (arith, long))
 
 -- the laws of a log whose commands are left to the next one
 abbrev pub InTime : Type 0
@@ -117,9 +126,10 @@ module _ (limits : Limits) (places logs : ℕ) (first : Streams) (start : Scene)
   requests_more = refl
 
   -- it is full of the last of the requests that were taken by then, of all that came in the end
-  pub filled : (last : Streams) (comes : Comes first last) (later : List ℕ) → moved last.input.events ≡ moved after.streams.input.events ++ later → FillsLast limits places (logs + 1) comes.requests after.worker
+  pub filled : (last : Streams) (comes : Comes first last) (later : List ℕ) → moved last.input.events ≡ moved after.streams.input.events ++ later →
+      EachStands (openings_of after.worker) (entries (history_of after.worker)) (tables_of after.worker) → FillsLast limits places (logs + 1) comes.requests after.worker
   unfolding served_more
-  filled last comes later pulled =
+  filled last comes later pulled stands =
       let bytes : comes.bytes ≡ served_more.came ++ later =
       same_behind (moved first.input.events) comes.bytes (served_more.came ++ later)
       (sym comes.came
@@ -133,18 +143,10 @@ module _ (limits : Limits) (places logs : ℕ) (first : Streams) (start : Scene)
         split = follows.1;
         alone = alone_after;
         replayed = is_full.0;
+        stands = stands;
         long = is_full.1;
         full = served_more.full;
       }
-
-  -- the table that stands for the full log
-  tables_one : (openings tables : List TableState) (log : List (Option Entry)) (opening : TableState) → openings ≡ opening ∷ [] → EachStands openings log tables → tables ≡ state_from opening (own 0 log) ∷ []
-  tables_one openings tables log opening one stands = by_tables tables (EachStands-length openings log tables stands ∙ ap length one) (stands 0 ∙ ap (λ list. option_map (λ it. state_from it (own 0 log)) (slice_get list 0)) one)
-    where
-      by_tables : (some : List TableState) → length some ≡ 1 → slice_get some 0 ≡ Some (state_from opening (own 0 log)) → some ≡ state_from opening (own 0 log) ∷ []
-      by_tables [] long at = absurd (omega (arith, long))
-      by_tables (table ∷ []) long at = ap (λ it. it ∷ []) (same_Some table _ at)
-      by_tables (table ∷ other ∷ more) long at = absurd (omega (arith, long))
 
   pub tables_more : (tables : List TableState) → EachStands (openings_of after.worker) (entries (history_of after.worker)) tables →
       tables ≡ state_after limits (commands_of served_more.requests) ∷ []

@@ -68,12 +68,12 @@ module _ (refused : Worker → Type 0) (limits : Limits) (places logs : ℕ) (fi
   module _ (conn : Conn) (old : Worker) (streams : Streams) (until : ServesUntil start (scene conn old streams) FullState) (late : PullsLate start (scene conn old streams)) (in_time : InTime) (full : Full)
       (done : HasReplayedAll old) where
     -- it is full and isn't followed by another
-    module _ (none : ¬ (HaveRoom (tables_of old) places) ⊎ refused old) (through : TakesThrough) (late_through : LateThrough) (stops_through : StopsThrough) (sends : StopsSend) where
+    module _ (stands : EachStands (openings_of old) (entries (history_of old)) (tables_of old)) (none : ¬ (HaveRoom (tables_of old) places) ⊎ refused old) (through : TakesThrough) (late_through : LateThrough) (stops_through : StopsThrough) (sends : StopsSend) where
       not_followed : (after : Scene) → Serves (scene conn old streams) after → (all : ServesClient limits places (logs + 1) first after.streams) →
           IsNotFollowed refused limits places (logs + 1) all.comes.requests
       not_followed after is all =
           let fills =
-          filled limits places logs first start begins (scene conn old streams) until.takes until.in_time done in_time full late after.streams all.comes is.takes.taken.came is.takes.taken.pulled
+          filled limits places logs first start begins (scene conn old streams) until.takes until.in_time done in_time full late after.streams all.comes is.takes.taken.came is.takes.taken.pulled stands
           in
           ⊎_elim (λ (no : ¬ (HaveRoom (tables_of old) places)). no_room old fills no) (λ (starved : refused old). out_of_memory old fills starved) none
 

@@ -12,7 +12,7 @@ use Rattle.mc_model.specs.declared.reply.TheConstants.WireNo.{OUT_OF_MEMORY}
 use Rattle.mc_model.specs.declared.request.Request.{Request}
 use Rattle.mc_model.specs.declared.settings.Limits.{Limits}
 use Rattle.mc_model.specs.Log.{own}
-use Rattle.mc_model.specs.Replay.{HaveRoom}
+use Rattle.mc_model.specs.Replay.{EachStands, HaveRoom}
 use Rattle.mc_model.specs.Settings.{Configuration, IsBetween, IsLawful}
 use Rattle.mc_read.specs.Line.{asked}
 use Rattle.mc_read.specs.Reading.{Reads, ReadsAs, ends_stream}
@@ -28,7 +28,7 @@ use Rattle.mc_stream.specs.Stream.{Inflow, Streams}
 use Rattle.mc_write.specs.Text.{text}
 use Rattle.uc_cells.specs.Sighting.{entries}
 use Rattle.uc_worker.specs.declared.worker.Worker.{Worker}
-use Rattle.uc_worker.specs.Worker.{history_of, tables_of}
+use Rattle.uc_worker.specs.Worker.{history_of, openings_of, tables_of}
 
 -- the settings of a log with one worker, for one tenant
 abbrev pub settings_alone : Limits → ℕ → Configuration
@@ -148,6 +148,7 @@ EndsBy limits places logs OutputFailed before after =
 
 -- The worker of the last of these logs has replayed all its places: they have the commands of the
 -- last of the requests up to there, and the log was opened over the table after the earlier ones.
+-- Its own table is the one after the commands of both.
 pub record FillsLast (limits : Limits) (places logs : ℕ) (requests : List Request)
     (worker : Worker) : Type 0 where
   pub earlier : List Request
@@ -156,6 +157,7 @@ pub record FillsLast (limits : Limits) (places logs : ℕ) (requests : List Requ
   pub split : requests ≡ (earlier ++ last) ++ others
   pub alone : IsAloneOver limits (commands_of earlier) places worker
   pub replayed : own 0 (entries (history_of worker)) ≡ commands_of last
+  pub stands : EachStands (openings_of worker) (entries (history_of worker)) (tables_of worker)
   pub long : length (commands_of last) ≡ places
   pub full : length (commands_of (earlier ++ last)) ≡ logs * places
 

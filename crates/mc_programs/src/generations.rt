@@ -38,9 +38,13 @@ fn next_log<T: TurnOver>(alloc: Global, over: &T, log: &Log, worker: &Worker<'_>
     ensures stands { IfSome result (λ next.
         EachStands (openings_of worker.now) (entries (history_of worker.now))
         next.base.tables.items) }
+    ensures tables { EachStands (openings_of worker.now) (entries (history_of worker.now))
+        (tables_of worker.now) }
     ensures none { result ≡ None →
         ¬ (HaveRoom (tables_of worker.now) log.now.settings.places) ⊎ T.refused worker.now }
 {
+    // The contract of `history` says what the table is in which there may be no room.
+    let _ = worker.history();
     if !worker.has_room(log.settings().places()) {
         return None;
     }

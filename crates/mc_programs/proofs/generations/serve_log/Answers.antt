@@ -91,5 +91,5 @@ returns-in-None-clause-served g c limits places logs first served settings fresh
     let done = replayed _ _ c.args.log.now until c.requires.log c.requires.alone c.requires.role c.requires.fresh c.logs_of_a_worker_alone_add_up.ensures.done in
     let none = subst (λ n. ¬ (HaveRoom (tables_of c.pump_until.new.worker) n) ⊎ g.T.TurnOver.refused c.pump_until.new.worker) (ap (λ (it : Configuration). it.places) settings) (c.in-None.ensures.none refl) in
     ends_on g.T.TurnOver.refused limits places logs first _ begins _ c.pump_until.new.worker _ until c.pump_until.ensures.late c.logs_of_a_worker_alone_add_up.ensures.in_time
-    c.logs_of_a_worker_alone_add_up.ensures.full done none c.turns_add_up.ensures.through c.turns_add_up.ensures.late c.turns_add_up.ensures.stops c.turns_add_up.ensures.sends
+    c.logs_of_a_worker_alone_add_up.ensures.full done c.next_log.ensures.tables none c.turns_add_up.ensures.through c.turns_add_up.ensures.late c.turns_add_up.ensures.stops c.turns_add_up.ensures.sends
     c.serve_to_end-in-None.result c.args.is_last _ c.serve_to_end-in-None.ensures.outcome c.serve_to_end-in-None.ensures.late
