@@ -26,6 +26,7 @@ pub use words::{
 mod faults;
 mod generations;
 mod hashing;
+pub mod laws;
 mod options;
 mod schedule;
 mod schedule_words;
