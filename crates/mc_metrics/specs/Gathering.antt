@@ -8,7 +8,7 @@ use Rattle.mc_counters.specs.declared.tally.Tally.{Tally}
 use Rattle.mc_counters.specs.declared.tally.TheConstants.Tally.{NONE}
 use Rattle.mc_metrics.specs.declared.gathering.ServerShown.{ServerShown}
 use Rattle.mc_metrics.specs.declared.gathering.Shown.{Shown}
-use Rattle.mc_metrics.specs.declared.gathering.TheConstants.{NOTHING}
+use Rattle.mc_metrics.specs.declared.gathering.TheConstants.{NOTHING, NO_WORKER}
 use Rattle.mc_metrics.specs.declared.snapshot.LogNumbers.{LogNumbers}
 use Rattle.mc_metrics.specs.declared.snapshot.Snapshot.{Snapshot}
 use Rattle.mc_metrics.specs.declared.snapshot.TenantNumbers.{TenantNumbers}
@@ -95,6 +95,14 @@ log_shown shown leader = record {
   turn_overs = shown.logs.turn_overs;
   turn_over_micros = shown.logs.turn_over_micros;
 }
+
+-- The snapshot of a server without a worker shows no tenant and no worker, and of the log that is
+-- served no places that are used.
+pub record GathersNone (shown : ServerShown) (snapshot : Snapshot) : Type 0 where
+  pub tenants : snapshot.tenants.items ≡ []
+  pub workers : snapshot.workers.items ≡ []
+  pub log : snapshot.log ≡ log_shown shown NO_WORKER
+  pub memory : snapshot.resident_bytes ≡ shown.resident_bytes
 
 -- The snapshot has the numbers of the tenants with these names: as the worker shows their tables
 -- that has come furthest, and of their requests to all workers.

@@ -1,7 +1,7 @@
 //! The numbers of a server at one time, by what its workers show.
 ghost use Rattle.std.specs.Option.{MatchOption};
 ghost use Rattle.std.specs.Prelude.{◌≡◌, ◌++◌, ◌↔◌, ◌<◌, [], IfOk, IsOkUnless, IsTrue, OnOk, length};
-ghost use Rattle.mc_metrics.specs.Gathering.{Gathers, IsFurthest, IsNoFurther, connections_shown, kept_in, log_shown, replayed_in, tally_at, tally_shown, tenant_numbers, tenant_shown, tenants_shown, workers_shown};
+ghost use Rattle.mc_metrics.specs.Gathering.{Gathers, GathersNone, IsFurthest, IsNoFurther, connections_shown, kept_in, log_shown, replayed_in, tally_at, tally_shown, tenant_numbers, tenant_shown, tenants_shown, workers_shown};
 
 use crate::snapshot::{LogNumbers, Snapshot, TenantNumbers, WorkerNumbers};
 use mc_counters::{LogShown, Tally, TenantShown, WorkerShown};
@@ -234,12 +234,14 @@ fn log_numbers(shown: &ServerShown, leader: &WorkerShown) -> LogNumbers
 
 /// Returns the numbers of a server whose tenants have these names, in their order: of the tables as
 /// the worker shows them that has come furthest, and of the requests to all workers. Without a
-/// worker no tenant is shown.
+/// worker no tenant is shown, and no place as used.
 ///
 /// Returns `Memory` if memory runs out.
 pub fn snapshot_of(alloc: Global, names: &[Name], shown: &ServerShown) -> Result<Snapshot, Fault>
     ensures gathers { IfOk result (λ snapshot. (0 < length shown.now.workers.items) →
         Gathers names.now shown.now snapshot) }
+    ensures none { IfOk result (λ snapshot. (shown.now.workers.items ≡ []) →
+        GathersNone shown.now snapshot) }
     ensures memory { IsOkUnless result Fault.Memory }
 {
     let mut tenants = Vec::new(alloc);
