@@ -1,10 +1,10 @@
 //! A worker's event loop.
-ghost use Rattle.std.specs.Prelude.{◌≡◌, ◌*◌, ◌≤◌, Bool, length, IfOk};
+ghost use Rattle.std.specs.Prelude.{◌≡◌, ◌↔◌, ◌⊎◌, ◌*◌, ◌≤◌, Bool, length, IfOk, IsTrue, Some};
 ghost use Rattle.mc_connections.specs.Working.{IsNewFor, KeepsPlaces, Works};
 ghost use Rattle.mc_connections.specs.declared.places.TheConstants.{MOST_CONNECTIONS};
 ghost use Rattle.mc_net.specs.Running.{HasWorked, standing_at};
 ghost use Rattle.uc_worker.specs.Going.{CatchesUp};
-ghost use Rattle.uc_worker.specs.Worker.{tenants_of};
+ghost use Rattle.uc_worker.specs.Worker.{IsClosing, tenants_of};
 ghost use Rattle.uc_worker.specs.declared.worker.Worker.{Worker};
 
 use crate::ended::Ended;
@@ -252,7 +252,10 @@ impl EventLoop {
 
     /// Returns whether the log is to be closed: another loop has signalled so, fewer places are
     /// left than there are workers, or its commands keep as many bytes as a log's may.
-    fn is_to_close(&self, worker: &Worker<'_>, signal: Option<Signal>) -> bool {
+    fn is_to_close(&self, worker: &Worker<'_>, signal: Option<Signal>) -> bool
+        ensures { IsTrue result ↔ (signal ≡ Some Signal.Full) ⊎ IsClosing worker.now
+            ⊎ (self.now.most_bytes ≤ self.now.bytes) }
+    {
         signal == Some(Signal::Full) || worker.is_closing() || self.bytes >= self.most_bytes
     }
 
