@@ -21,30 +21,33 @@ ghost use Rattle.mc_model.specs.Key.{is_lawful_key};
 ghost use Rattle.mc_model.specs.Name.{is_lawful_name};
 ghost use Rattle.mc_model.specs.Settings.{AreLawfulLimits};
 ghost use Rattle.mc_read.specs.declared.line.TheConstants.{BLOCK_LENGTH, DELTA, FLAGS, LINE_BYTES, UNIQUE};
-ghost use Rattle.mc_read.specs.Administering.{asked_by_admin};
+ghost use Rattle.mc_read.specs.declared.speaker.Speaker.{Speaker};
+ghost use Rattle.mc_read.specs.Administering.{asked_by_admin, lines_spoken};
 ghost use Rattle.mc_read.specs.Line.{asked};
 ghost use Rattle.mc_read.specs.Reading.{Reads};
 ghost use Rattle.mc_read.specs.Sending.{IsLawfulCommand, block_sent, line_sent, noreply_if, sent, setting_sent, verb_name};
 ghost use Rattle.mc_read.specs.Text.{IsRequestText, IsUnbroken, body_length};
 ghost use Rattle.mc_read.specs.Word.{is_zero, words};
 
-/// Every byte list has a reading.
+/// Every byte list has a reading, from a tenant's client and from an administrator.
 pub fn every_stream_reads()
-    ensures { (bytes : List ℕ) → (requests : List Request) × (rest : List ℕ)
-        × Reads asked bytes requests rest }
+    ensures { (speaker : Speaker) (bytes : List ℕ) → (requests : List Request) × (rest : List ℕ)
+        × Reads (lines_spoken speaker) bytes requests rest }
 {}
 
-/// A byte list has only one reading.
+/// A byte list from the same speaker has only one reading.
 pub fn a_stream_reads_one_way()
-    ensures { (bytes : List ℕ) (requests others : List Request) (rest left : List ℕ) →
-        Reads asked bytes requests rest → Reads asked bytes others left → (requests ≡ others)
-        × (rest ≡ left) }
+    ensures { (speaker : Speaker) (bytes : List ℕ) (requests others : List Request)
+        (rest left : List ℕ) → Reads (lines_spoken speaker) bytes requests rest →
+        Reads (lines_spoken speaker) bytes others left → (requests ≡ others) × (rest ≡ left) }
 {}
 
-/// No request text is a proper prefix of another, and a text is that of one request.
+/// No request text is a proper prefix of another from the same speaker, and a text is that of one
+/// request.
 pub fn no_text_begins_another()
-    ensures { (text more : List ℕ) (request other : Request) →
-        IsRequestText asked text request → IsRequestText asked (text ++ more) other → (more ≡ [])
+    ensures { (speaker : Speaker) (text more : List ℕ) (request other : Request) →
+        IsRequestText (lines_spoken speaker) text request →
+        IsRequestText (lines_spoken speaker) (text ++ more) other → (more ≡ [])
         × (request ≡ other) }
 {}
 

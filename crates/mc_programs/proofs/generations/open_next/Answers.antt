@@ -1,5 +1,6 @@
 use Rattle.std.proofs.Common.{◌∙◌}
 use Rattle.mc_programs.proofs.Openings.{fresh_mark, fresh_over, unopened_next}
+use Rattle.mc_read.specs.declared.speaker.Speaker.TheVariants.{Tenant}
 use Rattle.mc_programs.proofs.generations.open_next.Goals as goal
 
 pub serve_log-requires-clause-fresh : goal.serve_log-requires-clause-fresh
@@ -13,4 +14,4 @@ returns-clause-served g c limits places logs first served settings tables some =
 
 pub returns-in-Err-clause-served : goal.returns-in-Err-clause-served
 returns-in-Err-clause-served g c limits places logs first served settings tables some =
-    unopened_next limits places logs first _ _ served c.every_stream_reads.ensures some _ (c.close.ensures.told.0 c.in-Err.ensures.memory) c.in-Err.fault c.in-Err.ensures.memory
+    unopened_next limits places logs first _ _ served (c.every_stream_reads.ensures Tenant) some _ (c.close.ensures.told.0 c.in-Err.ensures.memory) c.in-Err.fault c.in-Err.ensures.memory

@@ -6,6 +6,7 @@ use Rattle.mc_conn.specs.Turn.{scene}
 use Rattle.mc_programs.proofs.LogEnds.{ends_closed, ends_last, ends_on, goes_on, replayed}
 use Rattle.mc_programs.proofs.Openings.{fits}
 use Rattle.mc_programs.proofs.Served.{Begins, stops}
+use Rattle.mc_read.specs.declared.speaker.Speaker.TheVariants.{Tenant}
 use Rattle.mc_stream.specs.Stream.{both}
 use Rattle.uc_worker.specs.Worker.{tables_of}
 use Rattle.mc_programs.proofs.generations.serve_log.Goals as goal
@@ -21,7 +22,7 @@ returns-then-is_last-clause-served g c limits places logs first served settings 
     let begins : Begins limits places logs first (scene c.args.conn.now c.args.worker.now (both (g.I.Input.tells c.args.input.now) (g.O.Output.tells c.args.output.now))) = record {
       served = served;
       fresh = fresh;
-      reading = c.every_stream_reads.ensures;
+      reading = c.every_stream_reads.ensures Tenant;
       last = c.logs_of_a_worker_alone_add_up.ensures.last;
       through = c.logs_of_a_worker_alone_add_up.ensures.through;
       reads = c.parts_add_up.ensures.read;
@@ -36,7 +37,7 @@ returns-in_err-pump_until-clause-served g c =
     (record {
       served = served;
       fresh = fresh;
-      reading = c.every_stream_reads.ensures;
+      reading = c.every_stream_reads.ensures Tenant;
       last = c.logs_of_a_worker_alone_add_up.ensures.last;
       through = c.logs_of_a_worker_alone_add_up.ensures.through;
       reads = c.parts_add_up.ensures.read;
@@ -48,7 +49,7 @@ returns-in-Closed-clause-served g c limits places logs first served settings fre
     let begins : Begins limits places logs first (scene c.args.conn.now c.args.worker.now (both (g.I.Input.tells c.args.input.now) (g.O.Output.tells c.args.output.now))) = record {
       served = served;
       fresh = fresh;
-      reading = c.every_stream_reads.ensures;
+      reading = c.every_stream_reads.ensures Tenant;
       last = c.logs_of_a_worker_alone_add_up.ensures.last;
       through = c.logs_of_a_worker_alone_add_up.ensures.through;
       reads = c.parts_add_up.ensures.read;
@@ -66,7 +67,7 @@ returns-in-Some-clause-served g c limits places logs first served settings fresh
     let begins : Begins limits places logs first (scene c.args.conn.now c.args.worker.now (both (g.I.Input.tells c.args.input.now) (g.O.Output.tells c.args.output.now))) = record {
       served = served;
       fresh = fresh;
-      reading = c.every_stream_reads.ensures;
+      reading = c.every_stream_reads.ensures Tenant;
       last = c.logs_of_a_worker_alone_add_up.ensures.last;
       through = c.logs_of_a_worker_alone_add_up.ensures.through;
       reads = c.parts_add_up.ensures.read;
@@ -82,7 +83,7 @@ returns-in-None-clause-served g c limits places logs first served settings fresh
     let begins : Begins limits places logs first (scene c.args.conn.now c.args.worker.now (both (g.I.Input.tells c.args.input.now) (g.O.Output.tells c.args.output.now))) = record {
       served = served;
       fresh = fresh;
-      reading = c.every_stream_reads.ensures;
+      reading = c.every_stream_reads.ensures Tenant;
       last = c.logs_of_a_worker_alone_add_up.ensures.last;
       through = c.logs_of_a_worker_alone_add_up.ensures.through;
       reads = c.parts_add_up.ensures.read;
