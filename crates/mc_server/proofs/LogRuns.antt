@@ -3,8 +3,9 @@
 use Rattle.std.proofs.Common.{◌≡◌, ◌∙◌, ◌⊎◌, ◌<◌, ◌≤◌, ℕ, ◌+◌, ◌-◌, ◌^◌, min, zero, suc, Bool, true, false, List, [], ◌∷◌, ◌++◌, Err, IfOk, Ok, Result, take, Some, All, length, map, slice_get, slice_index_or, ap, arith, refl, sym, subst, inl, inr, ⊎_elim}
 use Rattle.std.proofs.Math.Nat.{min-eq_left}
 use Rattle.std.proofs.Math.Seq.{take-append_seam}
-use Rattle.std.proofs.lemmas.List.Elements.{All-cons, All-contains, All-head, All-nil, All-tail, length_all_zip}
+use Rattle.std.proofs.lemmas.List.Elements.{All-cons, All-contains, All-head, All-nil, All-tail}
 use Rattle.std.proofs.lemmas.Option.{none-some, same_Some}
+use Rattle.std.proofs.lemmas.Slice.Zip.{AllZip-long}
 use Rattle.std.specs.List.{AllZip}
 use Rattle.mc_connections.specs.Asking.{HaveBeenAsked}
 use Rattle.mc_connections.specs.InTurn.{HaveServedInTurn, InTurn, no_worker, nobody}
@@ -155,6 +156,10 @@ all_answered answered asked (x ∷ xs) (z ∷ zs) by over = (
   record {
     answered = answered x z.ready.connections by.0;
     asked = asked x z.ready.connections by.0 (All-head IsEmptyLoop z zs over);
+    last = z.ready.connections;
+    in_turn = by.0;
+    none_left = All-head IsEmptyLoop z zs over;
+    are = refl;
   },
   all_answered answered asked xs zs by.1 (All-tail IsEmptyLoop z zs over),
 )
@@ -166,7 +171,7 @@ were_served answered asked settings most logs places last number front fits ends
   places = places;
   last = last;
   all = ends.all;
-  many = length_all_zip HasBeenServedBy ends.all front.event_loops.items ends.by ∙ sym front.event_loops.ok.0 ∙ fits.loops;
+  many = omega (arith, AllZip-long HasBeenServedBy ends.all front.event_loops.items ends.by, front.event_loops.ok.0, fits.loops);
   served = ends.served;
   serves = ends.serves;
   few = few;

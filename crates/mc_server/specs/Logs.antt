@@ -4,9 +4,11 @@
 use Rattle.std.specs.List.{AllZip}
 use Rattle.std.specs.Prelude.{◌≡◌, ◌⊎◌, ◌<◌, ◌≤◌, ⊤, ℕ, ◌+◌, Bool, false, List, [], All, MatchResult, Option, None, Result, Some, length, slice_get, vec_len}
 use Rattle.mc_connections.specs.Asking.{HaveBeenAsked}
-use Rattle.mc_connections.specs.InTurn.{InTurn, nobody}
+use Rattle.mc_connections.specs.InTurn.{HaveServedInTurn, InTurn, nobody}
 use Rattle.mc_connections.specs.Life.{WasAnswered}
+use Rattle.mc_connections.specs.Working.{IsEmpty}
 use Rattle.mc_connections.specs.declared.connection.Connection.{Connection}
+use Rattle.mc_connections.specs.declared.connections.Connections.{Connections}
 use Rattle.mc_model.specs.declared.fault.Fault.{Fault}
 use Rattle.mc_model.specs.declared.fault.Fault.TheVariants.{Memory}
 use Rattle.mc_model.specs.Replay.{EachStands, HaveRoom, empty_tables}
@@ -100,11 +102,16 @@ pub record ServesLast (settings : Configuration) (logs places : ℕ) (all : List
   pub parts : AllZip Continues begun served × (all ≡ each_followed_by who begun served)
       ⊎ ServesInTwo who begun served all
 
--- each connection that has ended was answered over all logs, and all that these workers have
--- announced was asked for by one of them
+-- Each connection that has ended was answered over all logs, and all that these workers have
+-- announced was asked for by one of them. All these were served one after another, from when there
+-- was no connection until none was left: so each answer has an announcement and a place of its own.
 pub record IsAnsweredBy (who : InTurn) (ended : List Connection) : Type 0 where
   pub answered : All (WasAnswered who.served) ended
   pub asked : HaveBeenAsked who.begun who.served ended
+  pub last : Connections
+  pub in_turn : HaveServedInTurn who last
+  pub none_left : IsEmpty last
+  pub are : last.ended.connections ≡ ended
 
 -- Tenants were served over at most so many logs with these settings, one after another (0: without
 -- an end), and this many places were used in total: those of the earlier logs, and those of the
