@@ -1,6 +1,15 @@
 //! What follows of the logs that tenants were served on. A law is the contract of a function with
 //! an empty body, or with calls of the laws from which it follows.
+ghost use Rattle.std.specs.Prelude.{◌≡◌};
 ghost use Rattle.mc_server.specs.CoreRuns.{AnnouncesInServedOrder, ClosedLogsAreCoreRuns, ClosedLogsDecidedNoMore, LastLogsAreCoreRuns, LastLogsComeBackOnCoreRuns, RunsKeepOwnOrder, RunsKeepSeenOrder};
+ghost use Rattle.mc_server.specs.declared.network_words.TheConstants.{MAX_GENERATIONS, MAX_LOG_BYTES};
+
+/// At most 65,536 logs may be asked for, one after another, and at most 1,099,511,627,776 bytes of
+/// a log's commands.
+pub fn numbers_of_a_service()
+    ensures generations { MAX_GENERATIONS ≡ 65536 }
+    ensures log_bytes { MAX_LOG_BYTES ≡ 1099511627776 }
+{}
 
 /// What the workers of a log have done, of all logs of a run of `wfmc` that ends, is one run of the
 /// core, the machine of the headline, over the tables that the log was opened over: each log that
