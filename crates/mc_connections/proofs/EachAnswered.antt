@@ -8,7 +8,7 @@ use Rattle.mc_conn.specs.declared.conn.Role.{Role}
 use Rattle.mc_conn.specs.Owed.{Demand, Logs, Mark, Owes, OwesFor, Says, answered, demand_of, is_logged}
 use Rattle.mc_model.specs.declared.request.Request.{Request}
 use Rattle.mc_connections.specs.Life.{OwesInLogs, OwesInParts, and_then, next_log, no_log, none_yet}
-use Rattle.mc_connections.specs.Seen.{AreAnsweredFrom, IsAnsweredAmong, IsAnsweredOnLast}
+use Rattle.mc_connections.specs.Seen.{AreAnsweredFrom, IsAnsweredAmong, IsAnsweredOnLast, SplitsAtLast}
 use Rattle.mc_connections.proofs.Lives.{logs_then, owes_alone}
 use Rattle.uc_worker.specs.Worker.{IsFull}
 use Rattle.uc_worker.specs.declared.worker.Worker.{Worker}
@@ -173,18 +173,6 @@ module _ (past : List Worker) (worker : Worker) (role : Role) (earlier : List Re
       (owed_answers worker role from last more others owes later.0 request later.2 logged))
       (at_either requests more index request at)
 
--- what is owed over logs is owed on the earlier ones, and then on the last
-record SplitsAtLast (past : List Worker) (worker : Worker) (role : Role) (requests : List Request) (owed : List ℕ) : Type 0 where
-  earlier : List Request
-  before : List ℕ
-  owes : OwesInLogs role past earlier before
-  rest : List Request
-  bytes : List ℕ
-  to : Mark
-  parts : OwesInParts worker role rest bytes to
-  are : requests ≡ earlier ++ rest
-  adds_up : owed ≡ before ++ bytes
-
 first_is : {X : Type 0} (x y : X) (list other : List X) → x ∷ list ≡ y ∷ other → x ≡ y
 first_is x y list other is = same_Some x y (ap (λ list. slice_get list 0) is)
 
@@ -221,24 +209,22 @@ split_at_last (first ∷ past) worker role _ _ _ is (next_log one workers reques
       adds_up = ap (λ (others : List ℕ). bytes ++ others) later.adds_up ∙ sym (append_assoc bytes later.before later.bytes);
     }
 
-pub answers_over_logs : (past : List Worker) (worker : Worker) (role : Role) (requests : List Request) (owed : List ℕ) → OwesInLogs role (past ++ worker ∷ []) requests owed →
-    (earlier : List Request) × (before : List ℕ) × OwesInLogs role past earlier before × BeginsWith requests earlier × AreAnsweredFrom past worker role requests owed (length earlier)
-answers_over_logs past worker role requests owed owes =
-    let split = split_at_last past worker role (past ++ worker ∷ []) requests owed refl owes in (
-      split.earlier,
-      split.before,
-      split.owes,
-      (split.rest, split.are),
-      λ index request from at logged.
-          ⊎_elim
-          (λ (inside : slice_get split.earlier index ≡ Some request). let no : ⊥ = omega (arith, from, slice_get_within split.earlier index request inside) in absurd no)
-          (λ (later : (there : ℕ) × (index ≡ length split.earlier + there) × (slice_get split.rest there ≡ Some request)).
-          ⊎_elim
-          (λ found. inl
-          (subst (λ (index : ℕ). IsAnsweredOnLast past worker role requests owed index) (sym later.1)
-          (subst (λ (requests : List Request). IsAnsweredOnLast past worker role requests owed (length split.earlier + later.0)) (sym split.are)
-          (subst (λ (owed : List ℕ). IsAnsweredOnLast past worker role (split.earlier ++ split.rest) owed (length split.earlier + later.0)) (sym split.adds_up) found))))
-          inr
-          (parts_answers past worker role split.earlier split.before split.owes split.rest split.bytes split.to split.parts later.0 request later.2 logged))
-          (at_either split.earlier split.rest index request (ap (λ (requests : List Request). slice_get requests index) (sym split.are) ∙ at)),
-    )
+-- what is owed over logs is owed on the earlier ones, and then on the last
+pub splits_at_last : (past : List Worker) (worker : Worker) (role : Role) (requests : List Request) (owed : List ℕ) → OwesInLogs role (past ++ worker ∷ []) requests owed →
+    SplitsAtLast past worker role requests owed
+splits_at_last past worker role requests owed owes = split_at_last past worker role (past ++ worker ∷ []) requests owed refl owes
+
+pub answers_over_logs : (past : List Worker) (worker : Worker) (role : Role) (requests : List Request) (owed : List ℕ) (split : SplitsAtLast past worker role requests owed) →
+    AreAnsweredFrom past worker role requests owed (length split.earlier)
+answers_over_logs past worker role requests owed split = λ index request from at logged.
+    ⊎_elim
+    (λ (inside : slice_get split.earlier index ≡ Some request). let no : ⊥ = omega (arith, from, slice_get_within split.earlier index request inside) in absurd no)
+    (λ (later : (there : ℕ) × (index ≡ length split.earlier + there) × (slice_get split.rest there ≡ Some request)).
+    ⊎_elim
+    (λ found. inl
+    (subst (λ (index : ℕ). IsAnsweredOnLast past worker role requests owed index) (sym later.1)
+    (subst (λ (requests : List Request). IsAnsweredOnLast past worker role requests owed (length split.earlier + later.0)) (sym split.are)
+    (subst (λ (owed : List ℕ). IsAnsweredOnLast past worker role (split.earlier ++ split.rest) owed (length split.earlier + later.0)) (sym split.adds_up) found))))
+    inr
+    (parts_answers past worker role split.earlier split.before split.owes split.rest split.bytes split.to split.parts later.0 request later.2 logged))
+    (at_either split.earlier split.rest index request (ap (λ (requests : List Request). slice_get requests index) (sym split.are) ∙ at))

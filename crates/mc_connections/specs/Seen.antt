@@ -14,7 +14,7 @@ use Rattle.mc_conn.specs.declared.conn.State.{State}
 use Rattle.mc_model.specs.declared.command.Command.{Command}
 use Rattle.mc_model.specs.declared.reply.Reply.{Reply}
 use Rattle.mc_model.specs.declared.request.Request.{Request}
-use Rattle.mc_connections.specs.Life.{IsCut, OwesInLogs, came_of, sent_of}
+use Rattle.mc_connections.specs.Life.{IsCut, OwesInLogs, OwesInParts, came_of, sent_of}
 use Rattle.mc_connections.specs.Serving.{IsServedLater, TakesOrStops, connection_at}
 use Rattle.mc_connections.specs.Working.{Standing}
 use Rattle.mc_connections.specs.declared.connection.Connection.{Connection}
@@ -97,6 +97,20 @@ abbrev pub owed_through : {past : List Worker} {worker : Worker} {role : Role}
     IsAnsweredOnLast past worker role requests owed index → List ℕ
 owed_through seen =
     seen.before ++ (seen.answer.before ++ answered seen.answer.quiet seen.answer.reply)
+
+-- What is owed over logs that followed one another, split where the last log begins: what the
+-- workers of the earlier logs owe for the first requests, and then what its worker owes for the rest.
+pub record SplitsAtLast (past : List Worker) (worker : Worker) (role : Role)
+    (requests : List Request) (owed : List ℕ) : Type 0 where
+  pub earlier : List Request
+  pub before : List ℕ
+  pub owes : OwesInLogs role past earlier before
+  pub rest : List Request
+  pub bytes : List ℕ
+  pub to : Mark
+  pub parts : OwesInParts worker role rest bytes to
+  pub are : requests ≡ earlier ++ rest
+  pub adds_up : owed ≡ before ++ bytes
 
 -- each of these requests from an index on that is to be logged was answered on the last log, unless
 -- that log is full

@@ -2,13 +2,12 @@
 //! is the contract of a function with an empty body, or with calls of the laws from which it
 //! follows.
 ghost use Rattle.std.specs.Prelude.{◌≡◌, ◌↔◌, ◌⊎◌, ◌<◌, [], ◌∷◌, ◌++◌, All, Bool, Some, true, ℕ, List, length, slice_get};
-ghost use Rattle.lists.specs.Lists.{BeginsWith};
 ghost use Rattle.mc_conn.specs.Owed.{Mark, Owes, demand_of, is_logged};
 ghost use Rattle.mc_conn.specs.declared.conn.Role.{Role};
 ghost use Rattle.mc_connections.specs.Asking.{HaveBeenAsked};
 ghost use Rattle.mc_connections.specs.InTurn.{HaveServedInTurn, InTurn};
 ghost use Rattle.mc_connections.specs.Life.{OwesInLogs, OwesInParts, WasAnswered};
-ghost use Rattle.mc_connections.specs.Seen.{AreAnsweredFrom, IsAnsweredAmong, IsThere, SeesThenAsks, WasSent, announced_number, history_place};
+ghost use Rattle.mc_connections.specs.Seen.{AreAnsweredFrom, IsAnsweredAmong, IsThere, SeesThenAsks, SplitsAtLast, WasSent, announced_number, history_place};
 ghost use Rattle.mc_connections.specs.Serving.{HasComeTo};
 ghost use Rattle.mc_connections.specs.Working.{IsEmpty, KeepsPlaces, Standing, Works, standing};
 ghost use Rattle.mc_connections.specs.declared.arrival.Admission.{Admission};
@@ -83,7 +82,8 @@ pub fn connections_are_answered_so_far()
 }
 
 /// Each request that is to be logged was answered, unless the log is full: one that a worker took,
-/// and so each that the worker of the last of several logs took.
+/// and so each that the worker of the last of several logs took, wherever that log is taken to
+/// begin.
 pub fn logged_requests_are_answered()
     ensures among { (worker : Worker) (role : Role) (from to : Mark) (requests : List Request)
         (owed : List ℕ) → Owes worker role from requests owed to → (index : ℕ)
@@ -91,10 +91,14 @@ pub fn logged_requests_are_answered()
         is_logged (demand_of role request) ≡ true →
         IsAnsweredAmong worker role from requests owed index ⊎ IsFull worker }
     ensures on_last { (past : List Worker) (worker : Worker) (role : Role)
+        (requests : List Request) (owed : List ℕ)
+        (split : SplitsAtLast past worker role requests owed) →
+        AreAnsweredFrom past worker role requests owed (length split.earlier) }
+    // What is owed over logs splits so.
+    ensures splits { (past : List Worker) (worker : Worker) (role : Role)
         (requests : List Request) (owed : List ℕ) →
-        OwesInLogs role (past ++ worker ∷ []) requests owed → (earlier : List Request)
-        × (before : List ℕ) × OwesInLogs role past earlier before × BeginsWith requests earlier
-        × AreAnsweredFrom past worker role requests owed (length earlier) }
+        OwesInLogs role (past ++ worker ∷ []) requests owed →
+        SplitsAtLast past worker role requests owed }
 {}
 
 /// If a client was sent the reply to a command on one connection, and the same worker answers
