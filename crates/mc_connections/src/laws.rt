@@ -13,9 +13,11 @@ ghost use Rattle.mc_connections.specs.Working.{IsEmpty, KeepsPlaces, Standing, W
 ghost use Rattle.mc_connections.specs.declared.arrival.Admission.{Admission};
 ghost use Rattle.mc_connections.specs.declared.arrival.Arrival.{Arrival};
 ghost use Rattle.mc_connections.specs.declared.closing.TheConstants.{DROPPED_BYTES, MOST_CLOSING};
+ghost use Rattle.mc_connections.specs.declared.connecting.TheConstants.{TURNS};
 ghost use Rattle.mc_connections.specs.declared.connection.Connection.{Connection};
 ghost use Rattle.mc_connections.specs.declared.connections.Connections.{Connections};
 ghost use Rattle.mc_connections.specs.declared.places.TheConstants.{MOST_ADMINS, MOST_CONNECTIONS};
+ghost use Rattle.mc_connections.specs.declared.waiting.TheConstants.{BYTES_OF_A_REQUEST, BYTES_OF_A_SERVE, QUANTUM, ROUND};
 ghost use Rattle.mc_model.specs.declared.request.Request.{Request};
 ghost use Rattle.uc_worker.specs.Going.{CatchesUp, Continues};
 ghost use Rattle.uc_worker.specs.Worker.{IsFull, tenants_of};
@@ -28,12 +30,19 @@ pub fn one_log_is_owed_in_parts()
         × OwesInParts worker role requests owed to }
 {}
 
-/// An event loop has at most 1,024 connections of tenants, and 16 more of administrators. At most
-/// 64 streams of connections that have ended close at the same time, and at most 65,536 bytes are
-/// dropped of each.
+/// An event loop has at most 1,024 connections of tenants, and 16 more of administrators. Each gets
+/// at most 2 turns when it is served. A tenant's connections may spend 20,480 bytes in their turn,
+/// of which serving one counts as 4,096, and each of its requests as 1,024; a round doesn't end
+/// before 10,240 are spent, while anybody waits. At most 64 streams of connections that have ended
+/// close at the same time, and at most 65,536 bytes are dropped of each.
 pub fn numbers_of_the_network()
     ensures connections { MOST_CONNECTIONS ≡ 1024 }
     ensures admins { MOST_ADMINS ≡ 16 }
+    ensures turns { TURNS ≡ 2 }
+    ensures quantum { QUANTUM ≡ 20480 }
+    ensures serve { BYTES_OF_A_SERVE ≡ 4096 }
+    ensures request { BYTES_OF_A_REQUEST ≡ 1024 }
+    ensures round { ROUND ≡ 10240 }
     ensures closing { MOST_CLOSING ≡ 64 }
     ensures dropped { DROPPED_BYTES ≡ 65536 }
 {}

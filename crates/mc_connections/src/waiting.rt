@@ -2,6 +2,7 @@
 ghost use Rattle.std.specs.Prelude.{◌≡◌, ◌+◌, ◌-◌, ◌^◌, ◌↔◌, IfOk, IsTrue, MatchOption, OnOk, length, min};
 ghost use Rattle.fair_queue.specs.Turns.{IsIdle};
 ghost use Rattle.mc_connections.specs.Waiting.{ComesToWait, EndsRound, IsRoundOver, TakesTurn, WaitsInLine, cost_of};
+ghost use Rattle.mc_connections.specs.declared.waiting.TheConstants.{QUANTUM};
 
 use crate::connections::MOST_OF_ALL;
 use fair_queue::FairQueue;
@@ -50,6 +51,7 @@ impl Waiting {
         ensures flows { IfOk result
             (λ waiting. length waiting.queue.flows ≡ min (tenants + 1) (2 ^ 64 - 1)) }
         ensures idle { IfOk result (λ waiting. IsIdle waiting.queue) }
+        ensures quantum { IfOk result (λ waiting. waiting.queue.quantum ≡ QUANTUM) }
     {
         let flows = tenants.saturating_add(1);
         Ok(Waiting {
