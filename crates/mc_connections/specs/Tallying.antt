@@ -1,6 +1,7 @@
 -- Where a worker keeps the tallies of its tenants, and which of them a connection is counted in;
 -- this project's profile.
-use Rattle.std.specs.Prelude.{◌≡◌, ℕ, ◌-◌, false, true, List, Option, Some, None, length, min, slice_get, slice_set}
+use Rattle.std.specs.Prelude.{◌≡◌, ℕ, ◌-◌, false, true, List, [], Option, Some, None, length, min, slice_get, slice_set}
+use Rattle.mc_counters.specs.Tallied.{IsTallyOf}
 use Rattle.mc_counters.specs.declared.tally.Tally.{Tally}
 use Rattle.mc_conn.specs.declared.conn.State.{State}
 use Rattle.mc_connections.specs.Serving.{Becomes, IsTallied, connection_at, scene_of, tenant_at}
@@ -11,6 +12,10 @@ use Rattle.mc_connections.specs.declared.tallies.OneTally.{OneTally}
 abbrev pub tally_place : ℕ → Option ℕ → ℕ
 tally_place last None = last
 tally_place last (Some number) = min number last
+
+-- the tally counts no request, and no connection was served for it
+abbrev pub IsFresh : OneTally → Type 0
+IsFresh one = IsTallyOf [] one.tally × (one.is_new ≡ false)
 
 -- the tally at a place
 pub record IsTallyAt (place : ℕ) (tallies : List OneTally) (tally : Tally) : Type 0 where

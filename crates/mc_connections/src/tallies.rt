@@ -1,6 +1,6 @@
 //! How a worker has answered the requests of each tenant.
-ghost use Rattle.mc_connections.specs.Tallying.{HasNoNewTally, IsTallyAt, tally_place};
-ghost use Rattle.std.specs.Prelude.{◌≡◌, ◌-◌, ◌<◌, ◌+◌, ◌^◌, IfOk, MatchOption, length, map, min};
+ghost use Rattle.mc_connections.specs.Tallying.{HasNoNewTally, IsFresh, IsTallyAt, tally_place};
+ghost use Rattle.std.specs.Prelude.{◌≡◌, ◌-◌, ◌<◌, ◌+◌, ◌^◌, All, IfOk, MatchOption, length, map, min};
 
 use mc_counters::Tally;
 use std::alloc::{AllocError, Global};
@@ -25,8 +25,9 @@ impl Tallies {
     ///
     /// Returns an error if memory runs out.
     pub(crate) fn new(alloc: Global, tenants: usize) -> Result<Tallies, AllocError>
-        ensures { IfOk result
+        ensures count { IfOk result
             (λ tallies. length tallies.all.items ≡ min (tenants + 1) (2 ^ 64 - 1)) }
+        ensures fresh { IfOk result (λ tallies. All IsFresh tallies.all.items) }
     {
         let none = OneTally {
             tally: Tally::new(),
