@@ -1,6 +1,6 @@
 -- A queue that is pushed piece by piece.
-use Rattle.std.proofs.Common.{◌≡◌, ℕ, List, ◌++◌, sym, ap, ◌∙◌, append_assoc}
-use Rattle.mc_stream.specs.Event.{moved}
+use Rattle.std.proofs.Common.{◌≡◌, ◌≤◌, ℕ, List, ◌++◌, sym, ap, ◌∙◌, append_assoc}
+use Rattle.mc_stream.specs.Event.{moved, waits}
 use Rattle.mc_stream.specs.Pushing.{IsUnfailed, Pushes, PushesAtOnce, Unqueues}
 use Rattle.mc_stream.specs.Stream.{Outflow}
 use Rattle.stream_lemmas.proofs.Pushed.{at_once_more}
@@ -21,6 +21,6 @@ unqueues_all queue rest before now after so_far pushed =
     ∙ (append_assoc (moved before.events) so_far.front rest ∙ ap (λ bytes. moved before.events ++ bytes) (sym so_far.split)))
 
 -- as much of what is left was pushed as the output took
-pub unqueues_at_once : (queue rest : List ℕ) (before now after : Outflow) → Unqueues queue rest before now → IsUnfailed before now → PushesAtOnce rest now after → PushesAtOnce queue before after
-unqueues_at_once queue rest before now after so_far same pushed =
-    rw so_far.split (at_once_more so_far.front rest before now after so_far.went same pushed)
+pub unqueues_at_once : (queue rest : List ℕ) (before now after : Outflow) → Unqueues queue rest before now → IsUnfailed before now → waits before.events ≤ waits now.events → PushesAtOnce rest now after → PushesAtOnce queue before after
+unqueues_at_once queue rest before now after so_far same waited pushed =
+    rw so_far.split (at_once_more so_far.front rest before now after so_far.went same waited pushed)

@@ -131,7 +131,7 @@ module _ (limits : Limits) (places logs : ℕ) (first : Streams) (conn : Conn) (
           logs,
           (some, omega arith),
           (
-            inl (told_part, same_stop told.0.0 first.output now.output output served.unfailed.1 told.0.2),
+            inl (told_part, same_stop told.0.0 first.output now.output output served.unfailed.1 served.waited told.0.2),
             served.unfailed.0,
             omega (arith, failed.0, served.unfailed.1),
             omega (arith, failed.1, served.unfailed.1),

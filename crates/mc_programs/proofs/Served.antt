@@ -372,7 +372,7 @@ module _ (limits : Limits) (places logs : ℕ) (first : Streams) (start : Scene)
       in
       let went = told.1.went ∙ (ap (λ known. known ++ told.1.front) breaks.taken.pushed ∙ append_assoc (moved start.streams.output.events) breaks.taken.sent told.1.front) in
       let part = in_part fault after breaks output (text (Refused OUT_OF_MEMORY)) (breaks.taken.sent ++ told.1.front) told.0 owes went (omega (arith, breaks.taken.waited, waited)) late in
-      inl (part.0, subst (λ unsent. IsAllOrStopped unsent first.output output) (sym part.1) (same_stop told.0 first.output after.streams.output output unfailed.1 told.2))
+      inl (part.0, subst (λ unsent. IsAllOrStopped unsent first.output output) (sym part.1) (same_stop told.0 first.output after.streams.output output unfailed.1 (omega (arith, so_far.waited, breaks.taken.waited)) told.2))
 
   -- the input failed, and the output never waited
   failed_last : (event : Event) (earlier : List Event) (n : ℕ) → failures (event ∷ earlier) ≡ n + 1 → failures earlier ≡ n → last_moved (event ∷ earlier) ≡ []

@@ -1,6 +1,6 @@
 -- What an output took of the bytes that it was given, one push after another; this project's
 -- profile.
-use Rattle.std.specs.Prelude.{◌≡◌, true, ◌+◌, ◌⊎◌, List, [], ◌++◌, take, ℕ}
+use Rattle.std.specs.Prelude.{◌≡◌, ◌<◌, true, ◌+◌, ◌⊎◌, List, [], ◌++◌, take, ℕ}
 use Rattle.mc_stream.specs.Event.{failures, had_to_wait, moved, waits}
 use Rattle.mc_stream.specs.Stream.{Outflow}
 use Rattle.mc_stream.specs.declared.pushing.Stop.{Stop}
@@ -42,10 +42,12 @@ pub record Unqueues (before after : List ℕ) (output_before output : Outflow) :
 abbrev pub PushesFront : List ℕ → Outflow → Outflow → Type 0
 PushesFront bytes before after = (rest : List ℕ) × Unqueues bytes rest before after
 
--- the last push found the output full, or the output failed once
+-- between the two states the output was full at the last push, or it failed once
 abbrev pub IsStopped : Outflow → Outflow → Type 0
 IsStopped before after =
-    (had_to_wait after.events ≡ true) × IsUnfailed before after ⊎ FailsOnce before after
+    (had_to_wait after.events ≡ true) × IsUnfailed before after
+    × (waits before.events < waits after.events)
+    ⊎ FailsOnce before after
 
 -- nothing is left unsent, or the output was full or failed
 abbrev pub IsAllOrStopped : List ℕ → Outflow → Outflow → Type 0

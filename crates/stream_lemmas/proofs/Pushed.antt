@@ -1,7 +1,7 @@
 -- How the bytes that an output took add up, one part after another.
-use Rattle.std.proofs.Common.{◌≡◌, ℕ, ◌+◌, inl, inr, ⊎_elim, List, ◌++◌, take, drop, sym, ap, ◌∙◌, append_assoc}
+use Rattle.std.proofs.Common.{◌≡◌, ℕ, ◌+◌, ◌≤◌, arith, inl, inr, ⊎_elim, List, ◌++◌, take, drop, sym, ap, ◌∙◌, append_assoc}
 use Rattle.std.proofs.lemmas.List.{take-append-drop}
-use Rattle.mc_stream.specs.Event.{moved}
+use Rattle.mc_stream.specs.Event.{moved, waits}
 use Rattle.mc_stream.specs.Pushing.{FailsOnce, IsAllOrStopped, IsStopped, IsUnfailed, Pushes, PushesAtOnce, PushesFront, PushesOrFails}
 use Rattle.mc_stream.specs.Stream.{Outflow}
 
@@ -33,18 +33,18 @@ front_only first second before after (rest, moves) = (
 )
 
 -- the output had not failed in between
-pub same_stop : (unsent : List ℕ) (before now after : Outflow) → IsUnfailed before now → IsAllOrStopped unsent now after → IsAllOrStopped unsent before after
-same_stop unsent before now after same stops =
+pub same_stop : (unsent : List ℕ) (before now after : Outflow) → IsUnfailed before now → waits before.events ≤ waits now.events → IsAllOrStopped unsent now after → IsAllOrStopped unsent before after
+same_stop unsent before now after same waited stops =
     ⊎_elim
     (λ all. inl (all.0, all.1 ∙ same))
-    (λ stopped. inr (⊎_elim (λ full. inl (full.0, full.1 ∙ same)) (λ failed. inr (failed ∙ ap (λ n. n + 1) same)) stopped))
+    (λ stopped. inr (⊎_elim (λ full. inl (full.0, full.1 ∙ same, omega (arith, waited, full.2))) (λ failed. inr (failed ∙ ap (λ n. n + 1) same)) stopped))
     stops
 
 -- the first bytes were taken, and as many of the second as the output took
-pub at_once_more : (first second : List ℕ) (before now after : Outflow) → Pushes before now first → IsUnfailed before now → PushesAtOnce second now after → PushesAtOnce (first ++ second) before after
+pub at_once_more : (first second : List ℕ) (before now after : Outflow) → Pushes before now first → IsUnfailed before now → waits before.events ≤ waits now.events → PushesAtOnce second now after → PushesAtOnce (first ++ second) before after
 unfolding front_more
-at_once_more first second before now after is_now same (rest, moves, stops) =
-    let front = front_more first second before now after is_now (rest, moves) in (front.0, front.1, same_stop rest before now after same stops)
+at_once_more first second before now after is_now same waited (rest, moves, stops) =
+    let front = front_more first second before now after is_now (rest, moves) in (front.0, front.1, same_stop rest before now after same waited stops)
 
 -- the first bytes weren't all taken, and the second aren't tried
 pub at_once_stopped : (first second : List ℕ) (before after : Outflow) → PushesAtOnce first before after → IsStopped before after → PushesAtOnce (first ++ second) before after

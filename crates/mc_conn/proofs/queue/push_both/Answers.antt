@@ -8,4 +8,4 @@ returns-then-not-push_while_taken-clause-pushed g c =
 pub returns-clause-pushed : goal.returns-clause-pushed
 returns-clause-pushed g c =
     let first = c.if-not-push_while_taken.ensures in
-    at_once_more c.args.first.now c.args.second.now _ _ _ first.all first.taken c.push_while_taken-2.ensures.pushed
+    at_once_more c.args.first.now c.args.second.now _ _ _ first.all first.taken c.push_while_taken.ensures.waited c.push_while_taken-2.ensures.pushed

@@ -6,7 +6,7 @@ pub returns-then-push_while_taken : goal.returns-then-push_while_taken
 returns-then-push_while_taken g c =
     let more = c.push_while_taken-then-push_while_taken.ensures in
     let pushed = rw c.refusal_text.ensures at more.pushed in (
-      at_once_more c.args.queue.now _ _ _ _ c.if-push_while_taken.ensures.all c.if-push_while_taken.ensures.taken pushed,
+      at_once_more c.args.queue.now _ _ _ _ c.if-push_while_taken.ensures.all c.if-push_while_taken.ensures.taken c.push_while_taken.ensures.waited pushed,
       omega (arith, c.push_while_taken.ensures.waited, more.waited),
     )
 

@@ -16,7 +16,7 @@ returns-then-not-push_both-clause-pushed g c =
     let at : drop index parts ≡ part ∷ drop (index + 1) parts = drop_more parts index part below ∙ ap (λ p. p ∷ drop (index + 1) parts) (sym c.index-part.ensures) in
     let left = together-first parts index part c.loop-index.own.now _ _ _ at c.split_at.ensures.front c.as_slice.ensures c.split_at.ensures.back in
     let stops = at_once_stopped _ (put_together (drop (index + 1) parts) c.split_at.result.1.now) _ _ c.push_both.ensures.pushed c.if-not-push_both.ensures.stopped in
-    unqueues_at_once _ _ _ _ _ so_far.pushed so_far.unfailed (rw left stops)
+    unqueues_at_once _ _ _ _ _ so_far.pushed so_far.unfailed so_far.waited (rw left stops)
 
 pub loop-index-preserved : goal.loop-index-preserved
 loop-index-preserved g c =
@@ -41,4 +41,4 @@ returns-clause-pushed g c =
     let so_far = c.loop-index.invariant in
     let none : drop c.loop-index.index parts ≡ [] = drop_all c.loop-index.index parts (omega (arith, c.len-index-end.ensures, c.self.inside.parts.ok.0, c.loop-index-test.false)) in
     let left = rw none at so_far.pushed in
-    unqueues_at_once _ _ _ _ _ left so_far.unfailed c.push_while_taken.ensures.pushed
+    unqueues_at_once _ _ _ _ _ left so_far.unfailed so_far.waited c.push_while_taken.ensures.pushed
