@@ -1,7 +1,7 @@
 -- The listeners of wfmc's tenants and administrators and for metrics, and what is printed for them;
 -- this project's profile.
 use Rattle.std.specs.List.{AllZip}
-use Rattle.std.specs.Prelude.{◌≡◌, ◌+◌, ℕ, List, [], ◌∷◌, ◌++◌, Option, Some, None, map, Contains}
+use Rattle.std.specs.Prelude.{◌≡◌, ◌+◌, ◌^◌, ◌<◌, ℕ, List, [], ◌∷◌, ◌++◌, Option, Some, None, map, Contains}
 use Rattle.std.specs.declared.net.socket_addr.SocketAddrV4.{SocketAddrV4}
 use Rattle.clap.specs.Walk.{Text}
 use Rattle.mc_conn.specs.declared.conn.Role.{Role}
@@ -72,11 +72,12 @@ pub record AreAsked (asked : NetworkAsked) (wanted : List Wanted) : Type 0 where
   pub listeners : map asked_at wanted ≡ clients_asked asked
   pub roles : map (λ one. one.role) wanted ≡ roles_asked asked
 
--- what is printed for a listener: its name and its address, with the port that it was given if the
--- address leaves it open
+-- what is printed for a listener: its name and its address, with the port that it was given, which
+-- has 16 bits, if the address leaves it open
 pub record IsListeningFor (asked : ListenerAsked) (listening : Listening) : Type 0 where
   pub name : listening.name.now ≡ asked.name
   pub given : ℕ
+  pub is_port : given < 2 ^ 16
   pub address : listening.address ≡ told_address asked.address given
 
 -- Listeners were bound at these addresses for these roles, and this is printed for each.
