@@ -1,6 +1,6 @@
 //! A queue of keys in flows, each of which is served in its turn.
 ghost use Rattle.std.specs.Prelude.{◌≡◌, ◌<◌, ◌↔◌, ℕ, [], IfOk, IsTrue, MatchOption, OnErr, OnOk, length};
-ghost use Rattle.fair_queue.specs.Turns.{Charges, ComesAfter, GivesFirst, IsFirstReady, IsIdle, IsNextTurn, IsPushed, QueueState, TurnGoesOn, flow_at};
+ghost use Rattle.fair_queue.specs.Turns.{Charges, ComesAfter, GivesFirst, IsFair, IsFirstReady, IsIdle, IsNextTurn, IsPushed, QueueState, TurnGoesOn, flow_at};
 
 use crate::flow::Flow;
 use std::alloc::{AllocError, Global};
@@ -69,6 +69,7 @@ impl FairQueue {
         ensures count { IfOk result (λ queue. length queue.flows ≡ flows) }
         ensures quantum { IfOk result (λ queue. queue.quantum ≡ quantum) }
         ensures idle { IfOk result IsIdle }
+        ensures fair { IfOk result IsFair }
     {
         let mut all = Vec::with_capacity(alloc, flows)?;
         for _ in 0..flows {
@@ -111,13 +112,15 @@ impl FairQueue {
         requires { flow < length self.old.flows }
         ensures pushed { OnOk result (IsPushed flow key self.old self.new) }
         ensures unchanged { OnErr result (self.new ≡ self.old) }
+        ensures fair { IsFair self.new }
     {
         self.flows[flow].push(key)
     }
 
     /// Charges to the flow that has its turn what was spent in it.
     fn charge(&mut self, spent: u64)
-        ensures { Charges spent self.old self.new }
+        ensures charges { Charges spent self.old self.new }
+        ensures fair { IsFair self.new }
     {
         let flow = &mut self.flows[self.turn];
         if flow.goes_on(spent) {
@@ -145,7 +148,8 @@ impl FairQueue {
     /// Takes the first key of the next flow in which something waits; the flow has its turn then.
     fn give(&mut self, flow: usize) -> Ready
         requires { IsFirstReady self.old flow }
-        ensures { (result.flow ≡ flow) × GivesFirst flow result.key self.old self.new }
+        ensures given { (result.flow ≡ flow) × GivesFirst flow result.key self.old self.new }
+        ensures fair { IsFair self.new }
     {
         self.turn = flow;
         match self.flows[flow].pop() {
@@ -156,9 +160,10 @@ impl FairQueue {
 
     /// Returns the key that is to be served next. `spent` is what serving the one before has cost.
     pub fn next(&mut self, spent: u64) -> Option<Ready>
-        ensures { (between : QueueState) × Charges spent self.old between × MatchOption result
-            (IsIdle between × (self.new ≡ between))
+        ensures given { (between : QueueState) × Charges spent self.old between
+            × MatchOption result (IsIdle between × (self.new ≡ between))
             (λ ready. GivesFirst ready.flow ready.key between self.new) }
+        ensures fair { IsFair self.new }
     {
         self.charge(spent);
         match self.first_ready() {

@@ -5,8 +5,8 @@ use Rattle.mc_connections.proofs.waiting.Waiting.pop.Goals as goal
 pub returns-in-Some : goal.returns-in-Some
 returns-in-Some c = (
   search (rules, c.is_round_over.ensures, c.if-is_round_over.false),
-  gave c.replace-spent.result c.in-Some.ready.key c.in-Some.ready.flow _ _ c.replace-spent.ensures.value c.take_out.ensures.queue c.in-Some.ensures c.take_out.ensures.waits,
+  gave c.replace-spent.result c.in-Some.ready.key c.in-Some.ready.flow _ _ c.replace-spent.ensures.value c.take_out.ensures.queue c.in-Some.ensures.given c.take_out.ensures.waits,
 )
 
 pub returns-in-None : goal.returns-in-None
-returns-in-None c = idled c.replace-spent.result _ _ c.replace-spent.ensures.value c.in-None.ensures
+returns-in-None c = idled c.replace-spent.result _ _ c.replace-spent.ensures.value c.in-None.ensures.given
