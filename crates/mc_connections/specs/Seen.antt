@@ -99,7 +99,8 @@ owed_through seen =
     seen.before ++ (seen.answer.before ++ answered seen.answer.quiet seen.answer.reply)
 
 -- What is owed over logs that followed one another, split where the last log begins: what the
--- workers of the earlier logs owe for the first requests, and then what its worker owes for the rest.
+-- workers of the earlier logs owe for the first requests, and then what its worker owes in parts
+-- for the rest.
 pub record SplitsAtLast (past : List Worker) (worker : Worker) (role : Role)
     (requests : List Request) (owed : List ℕ) : Type 0 where
   pub earlier : List Request
