@@ -120,8 +120,7 @@ module _ (before after : List ℕ) (old new : List CountedRequest) where
       GivesReply (Some (asked_for_by (command.Limit limits))) quiet reply before after old new → Counts (Admin names) (Limit name limits quiet) before after old new
   counts_setting names name limits quiet tenant reply is =
       let asked = Some (asked_for_by (command.Limit limits)) in
-      counts_given (Admin names) (Limit name limits quiet) asked quiet reply before after old new
-      (
+      counts_given (Admin names) (Limit name limits quiet) asked quiet reply before after old new (
         reply,
         subst (λ named. IsOwedWith (setting_of named limits quiet) reply (answered quiet reply)) (sym is) refl,
         ap (λ named. record { asked = asked_for (setting_of named limits quiet); reply = reply } ∷ []) (sym is),
@@ -131,8 +130,7 @@ module _ (before after : List ℕ) (old new : List CountedRequest) where
       GivesReply None false (Refused BAD_FORMAT) before after old new → Counts (Admin names) (Limit name limits quiet) before after old new
   counts_unnamed names name limits quiet is =
       let refusal = Refused BAD_FORMAT in
-      counts_given (Admin names) (Limit name limits quiet) None false refusal before after old new
-      (
+      counts_given (Admin names) (Limit name limits quiet) None false refusal before after old new (
         refusal,
         subst (λ named. IsOwedWith (setting_of named limits quiet) refusal (answered false refusal)) (sym is) (refl, false, refl),
         ap (λ named. record { asked = asked_for (setting_of named limits quiet); reply = refusal } ∷ []) (sym is),

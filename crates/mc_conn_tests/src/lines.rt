@@ -3,8 +3,8 @@ ghost use Rattle.std.specs.Prelude.{◌≡◌, ℕ, Some, slice_get, IfOk, IsTru
 ghost use Rattle.mc_conn.specs.Owed.{FitsLog, IsAmong};
 ghost use Rattle.uc_log.specs.Passes.{IsUnusedPass};
 
-use crate::logs::{both_passes, opened};
 use crate::acts::Act;
+use crate::logs::{both_passes, opened};
 use mc_conn::{Conn, PULL_BYTES, Role, State};
 use mc_counters::Tally;
 use mc_model::{Fault, Limits, TenantId};

@@ -2,9 +2,9 @@
 ghost use Rattle.std.specs.Prelude.{◌≡◌, ℕ, Some, slice_get, IfOk};
 ghost use Rattle.uc_log.specs.Passes.{IsUnusedPass};
 
-use crate::logs::{both_passes, opened};
 use crate::acts::Act;
 use crate::lines::{Line, QUOTAS, Wire, worker_of};
+use crate::logs::{both_passes, opened};
 use mc_model::Fault;
 use std::alloc::Global;
 use uc_log::{Log, Pass};

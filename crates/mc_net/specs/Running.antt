@@ -1,5 +1,4 @@
 -- What the loops leave; this project's profile.
-use Rattle.std.specs.List.{AllZip}
 use Rattle.std.specs.Prelude.{◌≡◌, ◌<◌, ◌⊎◌, ℕ, Bool, true, List, [], ◌∷◌, All, length, map, slice_index_or, IfOk, Ok}
 use Rattle.mc_conn.specs.declared.conn.Role.{Role}
 use Rattle.mc_connections.specs.InTurn.{HaveServedInTurn, InTurn, followed_by}
