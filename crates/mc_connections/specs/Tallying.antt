@@ -14,8 +14,8 @@ tally_place last None = last
 tally_place last (Some number) = min number last
 
 -- the tally counts no request, and no connection was served for it
-abbrev pub IsFresh : OneTally → Type 0
-IsFresh one = IsTallyOf [] one.tally × (one.is_new ≡ false)
+abbrev pub CountsNothing : OneTally → Type 0
+CountsNothing one = IsTallyOf [] one.tally × (one.is_new ≡ false)
 
 -- the tally at a place
 pub record IsTallyAt (place : ℕ) (tallies : List OneTally) (tally : Tally) : Type 0 where

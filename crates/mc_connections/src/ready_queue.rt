@@ -3,7 +3,7 @@ ghost use Rattle.std.specs.Prelude.{◌≡◌, ◌*◌, ◌≤◌, ◌↔◌, le
 ghost use Rattle.fair_queue.specs.Turns.{IsIdle};
 ghost use Rattle.mc_connections.specs.InQueue.{HasLetWait, HasServedNext};
 ghost use Rattle.mc_connections.specs.Serving.{tenant_at};
-ghost use Rattle.mc_connections.specs.Tallying.{CountsForTenant, IsFresh};
+ghost use Rattle.mc_connections.specs.Tallying.{CountsForTenant, CountsNothing};
 ghost use Rattle.mc_connections.specs.Waiting.{ComesToWait};
 ghost use Rattle.mc_connections.specs.Working.{IsNewFor, KeepsPlaces, Works, standing};
 ghost use Rattle.mc_connections.specs.declared.places.TheConstants.{MOST_CONNECTIONS};
@@ -51,7 +51,7 @@ impl ReadyQueue {
         requires { tenants * reserve ≤ MOST_CONNECTIONS }
         ensures new { IfOk result (λ ready. IsNewFor tenants ready.connections) }
         ensures reserve { IfOk result (λ ready. KeepsPlaces reserve ready.connections) }
-        ensures tallies { IfOk result (λ ready. All IsFresh ready.tallies.all.items) }
+        ensures tallies { IfOk result (λ ready. All CountsNothing ready.tallies.all.items) }
     {
         let waiting = Waiting::new(alloc, tenants)?;
         let connections = Connections::new(alloc, tenants, reserve)?;

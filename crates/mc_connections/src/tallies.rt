@@ -1,5 +1,5 @@
 //! How a worker has answered the requests of each tenant.
-ghost use Rattle.mc_connections.specs.Tallying.{HasNoNewTally, IsFresh, IsTallyAt, tally_place};
+ghost use Rattle.mc_connections.specs.Tallying.{CountsNothing, HasNoNewTally, IsTallyAt, tally_place};
 ghost use Rattle.std.specs.Prelude.{◌≡◌, ◌-◌, ◌<◌, ◌+◌, ◌^◌, All, IfOk, MatchOption, length, map, min};
 
 use mc_counters::Tally;
@@ -27,7 +27,7 @@ impl Tallies {
     pub(crate) fn new(alloc: Global, tenants: usize) -> Result<Tallies, AllocError>
         ensures count { IfOk result
             (λ tallies. length tallies.all.items ≡ min (tenants + 1) (2 ^ 64 - 1)) }
-        ensures fresh { IfOk result (λ tallies. All IsFresh tallies.all.items) }
+        ensures fresh { IfOk result (λ tallies. All CountsNothing tallies.all.items) }
     {
         let none = OneTally {
             tally: Tally::new(),
