@@ -3,5 +3,6 @@
 #![tactic(auto)]
 
 mod fair_places;
+pub mod laws;
 
 pub use fair_places::FairPlaces;

@@ -22,7 +22,7 @@ EventsLead old [] new = new ≡ old
 EventsLead old (event ∷ events) new =
     (between : QueueState) × HappensToQueue event old between × EventsLead between events new
 
--- the flow gives nothing, and no key that another gives costs more than that
+-- the flow gives nothing, and no key that was given before another gives one costs more than that
 abbrev pub PassesOver : ℕ → ℕ → QueueEvent → Type 0
 PassesOver waiting most (comes flow key) = Unit {0}
 PassesOver waiting most (gives flow key spent) = (flow ≢ waiting) × (spent ≤ most)
@@ -34,9 +34,9 @@ charged_to flow turn (comes other key ∷ events) = charged_to flow turn events
 charged_to flow turn (gives other key spent ∷ events) =
     cond (nat_eq turn flow) spent 0 + charged_to flow other events
 
--- While something waits in a flow and isn't given, no other flow is charged more than a quantum and
--- what the dearest of the keys costs that are given meanwhile, however many wait there, and whatever
--- comes.
+-- While something waits in a flow and the flow gives nothing, no other flow is charged more than a
+-- quantum and what the dearest key costs, of those that are given meanwhile and the one given just
+-- before, however many wait there, and whatever comes.
 abbrev pub WaitsForOneQuantumEach : Type 0
 WaitsForOneQuantumEach =
     (old new : QueueState) (events : List QueueEvent) (waiting other most : ℕ) →

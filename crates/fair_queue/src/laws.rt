@@ -1,9 +1,22 @@
 //! What the calls of a queue come to, however they follow one another.
+ghost use Rattle.std.specs.Prelude.{◌≡◌, ℕ, ◌+◌, ◌-◌, ◌<◌, ◌≤◌};
 ghost use Rattle.fair_queue.specs.Fair.{WaitsForOneQuantumEach};
+ghost use Rattle.fair_queue.specs.Turns.{renewed};
 
-/// While something waits in a flow and isn't given, each other flow is charged at most a quantum and
-/// what the dearest of the keys costs that are given meanwhile, however many wait in it and whatever
-/// comes. It starts from any queue that is fair, as `new`, `push` and `next` leave it.
+/// While something waits in a flow and the flow gives nothing, each other flow is charged at most a
+/// quantum and what the dearest key costs, of those that are given meanwhile and the one that was
+/// given just before, however many wait in it and whatever comes. It starts from any queue that is
+/// fair, as `new`, `push` and `next` leave it.
 pub fn a_flow_waits_for_one_quantum_of_each_other()
     ensures { WaitsForOneQuantumEach }
+{}
+
+/// What a flow took beyond its quantum in one turn is taken off the next one's, of which at least 1
+/// is left.
+pub fn what_a_turn_took_too_much_is_taken_off()
+    ensures kept { (quantum credit spent : ℕ) → spent ≤ credit →
+        renewed quantum credit spent ≡ quantum }
+    ensures taken_off { (quantum credit spent : ℕ) → credit ≤ spent → spent < credit + quantum →
+        renewed quantum credit spent + (spent - credit) ≡ quantum }
+    ensures least { (quantum credit spent : ℕ) → 0 < quantum → 0 < renewed quantum credit spent }
 {}

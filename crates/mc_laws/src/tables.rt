@@ -370,6 +370,11 @@ pub fn incr_wraps_and_decr_stops()
         (answer opening list (Incr key by) ≡ Refused NO_ROOM)
         ↔ (((limits_after opening list).bytes < use_of next)
         ⊎ ((limits_after opening list).items < count_of next)) }
+    ensures less { (opening : Limits) (list : List Command) (key : Key) (old : Item)
+        (number by : ℕ) →
+        map.get (after opening list) key ≡ Some old → numeric_value old.block ≡ Some number →
+        (answer opening list (Decr key by) ≡ Number (number - by))
+        ⊎ (answer opening list (Decr key by) ≡ Refused NO_ROOM) }
     ensures difference { (opening : Limits) (list : List Command) (key : Key) (old : Item)
         (left by : ℕ) → IsWithinQuotas opening list →
         map.get (after opening list) key ≡ Some old → numeric_value old.block ≡ Some (left + by) →

@@ -21,6 +21,11 @@ returns-clause-refused c = λ limits list key old number by is value.
     rw (ap (λ (e : Effect). e.reply) (incr_there (quotas limits list) (after limits list) (changes limits list + 1) key old number by is value))
     (stored_refused (quotas limits list) (after limits list) key sum (Number ((number + by) % (2 ^ 64))) (λ same. cc))
 
+pub returns-clause-less : goal.returns-clause-less
+returns-clause-less c = λ limits list key old number by is value.
+    rw (ap (λ (e : Effect). e.reply) (decr_spelt (quotas limits list) (after limits list) (changes limits list + 1) key old number by is value))
+    (stored_or_refused (quotas limits list) (after limits list) key _ (Number (number - by)))
+
 pub returns-clause-difference : goal.returns-clause-difference
 returns-clause-difference c = λ limits list key old left by within is value.
     let back : left + by - by ≡ left = omega arith in
