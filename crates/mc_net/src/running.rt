@@ -109,6 +109,7 @@ pub(crate) fn run_all<'a, R: Threads + Wait + Sync, G: Gate + Send, B: Begin<O>,
     begin: &B,
     state: &mut O,
 ) -> Result<(), Fault>
+    ensures listeners { acceptor.new.listeners ≡ acceptor.old.listeners }
     ensures workers { HaveRun until_done worker_threads.old worker_threads.new }
     ensures outcome { MatchResult result (λ _. B.done begin.now state.old state.new)
         (HaltsServing (B.done begin.now) (B.stopped begin.now) state.old state.new) }
