@@ -1,6 +1,8 @@
 //! A worker's event loop.
 ghost use Rattle.std.specs.Prelude.{◌≡◌, ◌↔◌, ◌⊎◌, ◌*◌, ◌≤◌, Bool, length, IfOk, IsTrue, Some};
+ghost use Rattle.mc_connections.specs.Serving.{HasComeTo};
 ghost use Rattle.mc_connections.specs.Working.{IsNewFor, KeepsPlaces, Works};
+ghost use Rattle.mc_connections.specs.declared.arrival.Admission.{Admission};
 ghost use Rattle.mc_connections.specs.declared.places.TheConstants.{MOST_CONNECTIONS};
 ghost use Rattle.mc_net.specs.Running.{HasWorked, standing_at};
 ghost use Rattle.uc_worker.specs.Going.{CatchesUp};
@@ -130,8 +132,11 @@ impl EventLoop {
         number: usize,
         offer: Offer,
     ) -> Result<(), Halt>
-        ensures { (until : Bool) (worker : Worker) →
+        ensures works { (until : Bool) (worker : Worker) →
             Works until (standing_at worker self.old) (standing_at worker self.new) }
+        // What is admitted is the offer's arrival, with its role.
+        ensures came { (admission : Admission) ×
+            HasComeTo self.old.ready.connections self.new.ready.connections offer.arrival admission }
     {
         mc_connections::laws::work_adds_up();
         let Offer { arrival, refusals } = offer;
