@@ -134,9 +134,9 @@ impl EventLoop {
     ) -> Result<(), Halt>
         ensures works { (until : Bool) (worker : Worker) →
             Works until (standing_at worker self.old) (standing_at worker self.new) }
-        // What is admitted is the offer's arrival, with its role.
-        ensures came { (admission : Admission) ×
-            HasComeTo self.old.ready.connections self.new.ready.connections offer.arrival admission }
+        // What comes is the offer's arrival, with its role.
+        ensures came { (outcome : Admission) ×
+            HasComeTo self.old.ready.connections self.new.ready.connections offer.arrival outcome }
     {
         mc_connections::laws::work_adds_up();
         let Offer { arrival, refusals } = offer;

@@ -224,6 +224,9 @@ impl Front {
         ensures loops { IfOk result
             (λ _. vec_len self.new.event_loops ≡ vec_len self.old.event_loops) }
         ensures tenants { self.new.tenants ≡ self.old.tenants }
+        // It accepts at the same listeners, in order, for the same roles, after a fault too.
+        ensures listeners { listeners_of self.new.acceptor.listeners.items
+            ≡ listeners_of self.old.acceptor.listeners.items }
         // It began with the state; or the network failed before it began with the state, or
         // afterwards; or a fault stopped that.
         ensures outcome { MatchResult result (λ _. B.done begin.now state.old state.new)
