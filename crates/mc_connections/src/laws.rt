@@ -1,7 +1,7 @@
 //! What the definitions say of connections, log after log, and the numbers of this profile. A law
 //! is the contract of a function with an empty body, or with calls of the laws from which it
 //! follows.
-ghost use Rattle.std.specs.Prelude.{◌≡◌, ◌↔◌, ◌⊎◌, ◌<◌, [], ◌∷◌, ◌++◌, All, Bool, Some, true, ℕ, List, length, slice_get};
+ghost use Rattle.std.specs.Prelude.{◌≡◌, ◌↔◌, ◌⊎◌, ◌<◌, [], ◌∷◌, ◌++◌, All, Bool, None, Some, true, ℕ, List, length, slice_get};
 ghost use Rattle.mc_conn.specs.Owed.{Mark, Owes, demand_of, is_logged};
 ghost use Rattle.mc_conn.specs.declared.conn.Role.{Role};
 ghost use Rattle.mc_connections.specs.Asking.{HaveBeenAsked};
@@ -9,6 +9,8 @@ ghost use Rattle.mc_connections.specs.InTurn.{HaveServedInTurn, InTurn};
 ghost use Rattle.mc_connections.specs.Life.{OwesInLogs, OwesInParts, WasAnswered};
 ghost use Rattle.mc_connections.specs.Seen.{AreAnsweredFrom, IsAnsweredAmong, IsThere, SeesThenAsks, SplitsAtLast, WasSent, announced_number, history_place};
 ghost use Rattle.mc_connections.specs.Serving.{HasComeTo};
+ghost use Rattle.mc_connections.specs.Tallying.{tally_place};
+ghost use Rattle.mc_connections.specs.Waiting.{cost_of, flow_of};
 ghost use Rattle.mc_connections.specs.Working.{IsEmpty, KeepsPlaces, Standing, Works, standing};
 ghost use Rattle.mc_connections.specs.declared.arrival.Admission.{Admission};
 ghost use Rattle.mc_connections.specs.declared.arrival.Arrival.{Arrival};
@@ -45,6 +47,18 @@ pub fn numbers_of_the_network()
     ensures round { ROUND ≡ 10240 }
     ensures closing { MOST_CLOSING ≡ 64 }
     ensures dropped { DROPPED_BYTES ≡ 65536 }
+{}
+
+/// Each of two tenants has a flow and a tally of its own, and administrators have the last ones.
+/// To serve a connection costs what the system's calls count as, its requests, and its bytes.
+pub fn each_tenant_has_its_own()
+    ensures flow_of_first { flow_of 3 (Some 0) ≡ 0 }
+    ensures flow_of_second { flow_of 3 (Some 1) ≡ 1 }
+    ensures flow_of_admins { flow_of 3 None ≡ 2 }
+    ensures tally_of_first { tally_place 2 (Some 0) ≡ 0 }
+    ensures tally_of_second { tally_place 2 (Some 1) ≡ 1 }
+    ensures tally_of_admins { tally_place 2 None ≡ 2 }
+    ensures cost { cost_of 2 10 ≡ 6154 }
 {}
 
 /// Work adds up: none, work after work, and an arrival or the worker's catching up after work. The

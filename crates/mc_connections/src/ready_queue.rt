@@ -1,5 +1,5 @@
 //! Which of an event loop's connections are served next.
-ghost use Rattle.std.specs.Prelude.{◌≡◌, ◌*◌, ◌≤◌, ◌↔◌, length, All, IfOk, IsTrue, OnOk};
+ghost use Rattle.std.specs.Prelude.{◌≡◌, ◌+◌, ◌-◌, ◌*◌, ◌^◌, ◌≤◌, ◌↔◌, length, min, All, IfOk, IsTrue, OnOk};
 ghost use Rattle.fair_queue.specs.Turns.{IsIdle};
 ghost use Rattle.mc_connections.specs.InQueue.{HasLetWait, HasServedNext};
 ghost use Rattle.mc_connections.specs.Serving.{tenant_at};
@@ -52,6 +52,11 @@ impl ReadyQueue {
         ensures new { IfOk result (λ ready. IsNewFor tenants ready.connections) }
         ensures reserve { IfOk result (λ ready. KeepsPlaces reserve ready.connections) }
         ensures tallies { IfOk result (λ ready. All CountsNothing ready.tallies.all.items) }
+        ensures places { IfOk result
+            (λ ready. length ready.tallies.all.items ≡ min (tenants + 1) (2 ^ 64 - 1)) }
+        ensures flows { IfOk result
+            (λ ready. length ready.waiting.queue.flows ≡ min (tenants + 1) (2 ^ 64 - 1)) }
+        ensures idle { IfOk result (λ ready. IsIdle ready.waiting.queue) }
     {
         let waiting = Waiting::new(alloc, tenants)?;
         let connections = Connections::new(alloc, tenants, reserve)?;
