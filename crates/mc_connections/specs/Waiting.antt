@@ -1,5 +1,5 @@
 -- Which connections wait, whose turn it is, and what a turn costs; this project's profile.
-use Rattle.std.specs.Prelude.{◌≡◌, ◌⊎◌, ℕ, ◌+◌, ◌-◌, ◌*◌, ◌^◌, ◌≤◌, Bool, Option, Some, length, min, slice_get, unwrap_or}
+use Rattle.std.specs.Prelude.{◌≡◌, ◌⊎◌, ℕ, ◌+◌, ◌-◌, ◌*◌, ◌^◌, ◌≤◌, ◌&&◌, Bool, Option, None, Some, length, min, slice_get, slice_set, unwrap_or}
 use Rattle.fair_queue.specs.Turns.{Charges, GivesFirst, IsIdle, IsPushed, QueueState, TurnGoesOn, flow_at}
 use Rattle.mc_connections.specs.declared.waiting.TheConstants.{BYTES_OF_A_REQUEST, BYTES_OF_A_SERVE, ROUND}
 use Rattle.mc_connections.specs.declared.waiting.Waiting.{Waiting}
@@ -17,6 +17,19 @@ flow_of flows tenant = min (unwrap_or tenant (flows - 1)) (flows - 1)
 -- the connection under this key waits
 abbrev pub WaitsInLine : Waiting → ℕ → Type 0
 WaitsInLine waiting key = (short : Bool) × (slice_get waiting.waits.items key ≡ Some (Some short))
+
+-- what is noted under this key: `stops_short` if the connection waits
+abbrev pub short_at : Waiting → ℕ → Option Bool
+short_at waiting key = unwrap_or (slice_get waiting.waits.items key) None
+
+-- what is noted once there is one more event: a short read is the last one only if it is for each
+abbrev pub short_with : Option Bool → Bool → Bool
+short_with None short = short
+short_with (Some earlier) short = earlier && short
+
+-- this is noted under this key, if it is one, and nothing else has changed of who waits
+abbrev pub IsNoted : ℕ → Option Bool → Waiting → Waiting → Type 0
+IsNoted key noted old new = new.waits.items ≡ slice_set old.waits.items key noted
 
 -- a connection came to wait behind those of its flow; or it waits already, or its key is none
 abbrev pub ComesToWait : Option ℕ → ℕ → Waiting → Waiting → Type 0

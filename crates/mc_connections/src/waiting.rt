@@ -1,7 +1,8 @@
 //! Which connections wait to be served, and whose turn it is.
-ghost use Rattle.std.specs.Prelude.{◌≡◌, ◌+◌, ◌-◌, ◌^◌, ◌↔◌, IfOk, IsTrue, MatchOption, OnOk, length, min};
+ghost use Rattle.std.specs.Prelude.{◌≡◌, ◌+◌, ◌-◌, ◌^◌, ◌↔◌, IfOk, IsTrue, MatchOption, None, OnOk, Some, false, length, min, replicate, unwrap_or};
 ghost use Rattle.fair_queue.specs.Turns.{IsIdle};
-ghost use Rattle.mc_connections.specs.Waiting.{ComesToWait, EndsRound, IsRoundOver, TakesTurn, WaitsInLine, cost_of};
+ghost use Rattle.mc_connections.specs.Waiting.{ComesToWait, EndsRound, IsNoted, IsRoundOver, TakesTurn, WaitsInLine, cost_of, short_at, short_with};
+ghost use Rattle.mc_connections.specs.declared.connections.TheConstants.{MOST_OF_ALL};
 ghost use Rattle.mc_connections.specs.declared.waiting.TheConstants.{QUANTUM};
 
 use crate::connections::MOST_OF_ALL;
@@ -52,6 +53,8 @@ impl Waiting {
             (λ waiting. length waiting.queue.flows ≡ min (tenants + 1) (2 ^ 64 - 1)) }
         ensures idle { IfOk result (λ waiting. IsIdle waiting.queue) }
         ensures quantum { IfOk result (λ waiting. waiting.queue.quantum ≡ QUANTUM) }
+        ensures none { IfOk result
+            (λ waiting. waiting.waits.items ≡ replicate MOST_OF_ALL None) }
     {
         let flows = tenants.saturating_add(1);
         Ok(Waiting {
@@ -74,6 +77,8 @@ impl Waiting {
     /// Returns an error if memory runs out.
     pub(crate) fn push(&mut self, tenant: Option<usize>, next: Next) -> Result<(), AllocError>
         ensures waits { OnOk result (ComesToWait tenant next.key self.old self.new) }
+        ensures noted { IsNoted next.key
+            (Some (short_with (short_at self.old next.key) next.stops_short)) self.old self.new }
         ensures spent { self.new.spent ≡ self.old.spent }
     {
         let Some(waits) = self.waits.get_mut(next.key) else {
@@ -98,6 +103,8 @@ impl Waiting {
     /// Notes that the connection under a key doesn't wait any more. Returns its `stops_short`.
     fn take_out(&mut self, key: usize) -> bool
         ensures waits { ¬ (WaitsInLine self.new key) }
+        ensures noted { IsNoted key None self.old self.new }
+        ensures short { result ≡ unwrap_or (short_at self.old key) false }
         ensures queue { self.new.queue ≡ self.old.queue }
         ensures spent { self.new.spent ≡ self.old.spent }
     {
@@ -118,8 +125,11 @@ impl Waiting {
     /// Takes out the connection that is to be served next, or `None` if nobody waits or the round
     /// is over.
     pub(crate) fn pop(&mut self) -> Option<Next>
-        ensures { MatchOption result (EndsRound self.old self.new)
+        ensures takes { MatchOption result (EndsRound self.old self.new)
             (λ next. ¬ (IsRoundOver self.old) × TakesTurn next.key self.old self.new) }
+        ensures noted { MatchOption result (self.new.waits.items ≡ self.old.waits.items)
+            (λ next. IsNoted next.key None self.old self.new
+            × (next.stops_short ≡ unwrap_or (short_at self.old next.key) false)) }
     {
         if self.is_round_over() {
             return None;
