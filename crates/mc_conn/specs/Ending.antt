@@ -1,6 +1,6 @@
 -- How a turn ends: the state that it returns, and what a fault leaves; this project's profile.
 use Rattle.std.specs.Option.{option_map_or}
-use Rattle.std.specs.Prelude.{◌≡◌, ◌≢◌, ◌⊎◌, ℕ, ◌+◌, ◌<◌, ◌≤◌, Bool, true, false, List, [], ◌∷◌, ◌++◌, length, None, Some, slice_get}
+use Rattle.std.specs.Prelude.{◌≡◌, ◌≢◌, ◌⊎◌, ℕ, ◌+◌, ◌<◌, ◌≤◌, max, Bool, true, false, List, [], ◌∷◌, ◌++◌, length, None, Some, slice_get}
 use Rattle.mc_model.specs.declared.fault.Fault.{Fault}
 use Rattle.mc_model.specs.declared.request.Request.{Request}
 use Rattle.mc_stream.specs.Event.{Event, last_moved, waits}
@@ -92,6 +92,11 @@ PullsOnce before after =
     (after ≡ before)
     ⊎ (event : Event) × (after.events ≡ event ∷ before.events)
     × (length (last_moved after.events) ≤ PULL_BYTES)
+
+-- nothing was pulled, or no more bytes by the last pull than this many, or than one
+abbrev pub PullsFew : ℕ → Inflow → Inflow → Type 0
+PullsFew most before after =
+    (after ≡ before) ⊎ (length (last_moved after.events) ≤ max most 1)
 
 -- a call pulls at most once, and what had come before that pull was answered first
 pub record Pulls (before after : Scene) : Type 0 where

@@ -4,7 +4,7 @@ ghost use Rattle.mc_stream.specs.Event.{waits};
 ghost use Rattle.mc_stream.specs.Stream.{Outflow, both};
 ghost use Rattle.uc_worker.specs.declared.worker.Worker.{Worker};
 ghost use Rattle.mc_conn.specs.declared.conn.TheConstants.{QUEUE_BYTES};
-ghost use Rattle.mc_conn.specs.Ending.{Breaks, Pulls, PullsOnce};
+ghost use Rattle.mc_conn.specs.Ending.{Breaks, Pulls, PullsFew, PullsOnce};
 ghost use Rattle.mc_conn.specs.Parts.{Does, IsHeldBehind, IsLeft};
 ghost use Rattle.mc_conn.specs.Owed.{FitsLog};
 ghost use Rattle.mc_conn.specs.Tallying.{HasCounted};
@@ -35,6 +35,7 @@ impl Conn {
             (waits (I.tells input.new).events ≡ waits (I.tells input.old).events + 1)
             ⊎ (self.new.has_ended ≡ true)) }
         ensures once { PullsOnce (I.tells input.old) (I.tells input.new) }
+        ensures few { PullsFew most (I.tells input.old) (I.tells input.new) }
         ensures role { self.new.role ≡ self.old.role }
         ensures past { self.new.past ≡ self.old.past }
     {
@@ -82,6 +83,7 @@ impl Conn {
         ensures pulls { Pulls
             (scene self.old worker.old (both (I.tells input.old) (O.tells output.old)))
             (scene self.new worker.new (both (I.tells input.new) (O.tells output.new))) }
+        ensures few { PullsFew most (I.tells input.old) (I.tells input.new) }
         ensures tally { HasCounted self.old.past self.new.past tally.old tally.new }
     {
         if self.waiting.is_some() | (self.queue.len() > QUEUE_BYTES) | self.has_ended {

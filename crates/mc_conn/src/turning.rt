@@ -3,7 +3,7 @@ ghost use Rattle.std.specs.Prelude.{◌≡◌, ◌≢◌, ◌++◌, List, true, 
 ghost use Rattle.mc_counters.specs.Tallied.{CountedRequest, IsTallyOf};
 ghost use Rattle.mc_stream.specs.Stream.{both};
 ghost use Rattle.mc_conn.specs.ConnFault.{TellsStarved};
-ghost use Rattle.mc_conn.specs.Ending.{Breaks, Pulls, Stops, Turns, TurnsUntil};
+ghost use Rattle.mc_conn.specs.Ending.{Breaks, Pulls, PullsFew, Stops, Turns, TurnsUntil};
 ghost use Rattle.mc_conn.specs.Parts.{GoesRound, StateIs, TellsOf};
 ghost use Rattle.mc_conn.specs.Owed.{FitsLog};
 ghost use Rattle.mc_conn.specs.Tallying.{HasCounted, HasCountedTo, counted_at};
@@ -77,6 +77,7 @@ impl Conn {
         ensures pulls { Pulls
             (scene self.old worker.old (both (I.tells input.old) (O.tells output.old)))
             (scene self.new worker.new (both (I.tells input.new) (O.tells output.new))) }
+        ensures few { PullsFew most (I.tells input.old) (I.tells input.new) }
         ensures tally { HasCounted self.old.past self.new.past tally.old tally.new }
     {
         let first = self.push(output)?;
@@ -122,6 +123,7 @@ impl Conn {
         ensures pulls { Pulls
             (scene self.old worker.old (both (I.tells input.old) (O.tells output.old)))
             (scene self.new worker.new (both (I.tells input.new) (O.tells output.new))) }
+        ensures few { PullsFew most (I.tells input.old) (I.tells input.new) }
         ensures same { (self.new.role ≡ self.old.role) × (worker.new.log ≡ worker.old.log) }
         ensures tally { MatchResult result
             (λ _. HasCounted self.old.past self.new.past tally.old tally.new)
@@ -177,6 +179,7 @@ impl Conn {
         ensures pulls { Pulls
             (scene self.old worker.old (both (I.tells input.old) (O.tells output.old)))
             (scene self.new worker.new (both (I.tells input.new) (O.tells output.new))) }
+        ensures few { PullsFew most (I.tells input.old) (I.tells input.new) }
         // No command is left to another log.
         ensures takes_all { IfOk result (λ state. state ≢ State.Full) }
         // It is still the same client's, on the same log.
@@ -217,6 +220,7 @@ impl Conn {
         ensures pulls { Pulls
             (scene self.old worker.old (both (I.tells input.old) (O.tells output.old)))
             (scene self.new worker.new (both (I.tells input.new) (O.tells output.new))) }
+        ensures few { PullsFew most (I.tells input.old) (I.tells input.new) }
         ensures same { (self.new.role ≡ self.old.role) × (worker.new.log ≡ worker.old.log) }
         ensures tally { MatchResult result
             (λ _. HasCounted self.old.past self.new.past tally.old tally.new)

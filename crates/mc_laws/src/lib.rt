@@ -6,4 +6,5 @@
 pub mod logs;
 pub mod places;
 pub mod tables;
+pub mod texts;
 pub mod values;

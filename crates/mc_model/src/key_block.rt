@@ -1,7 +1,7 @@
 //! Several keys in one block.
 ghost use Rattle.std.specs.Cmp.{partial_equiv_from_equiv};
 ghost use Rattle.std.specs.Cmp.Lexicographic.{lists_equiv, nat_list_eq_equiv, pointwise};
-ghost use Rattle.std.specs.Prelude.{◌≡◌, [], ◌∷◌, ◌++◌, length, nat_eq, IfOk, IsTrue, IsOkUnless, MatchOption, OnErr, OnOk, if◌then◌else◌};
+ghost use Rattle.std.specs.Prelude.{◌≡◌, [], ◌∷◌, ◌++◌, length, nat_eq, false, IfOk, IsOk, IsTrue, IsOkUnless, MatchOption, OnErr, OnOk, if◌then◌else◌};
 ghost use Rattle.mc_model.specs.Key.{is_lawful_key};
 ghost use Rattle.mc_model.specs.KeyBlocks.{block_of};
 
@@ -60,6 +60,8 @@ impl KeyBlock {
         ensures keys { OnOk result
             (self.new ≡ (if is_lawful_key key.now then self.old ++ key.now ∷ [] else self.old)) }
         ensures memory { IsOkUnless result Fault.Memory }
+        // What is no key needs no memory.
+        ensures unlawful { is_lawful_key key.now ≡ false → IsOk result }
         ensures unchanged { OnErr result (self.new ≡ self.old) }
     {
         if !Key::is_lawful(key) {

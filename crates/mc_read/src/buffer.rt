@@ -60,7 +60,7 @@ fn write_over(bytes: &mut [u8], start: usize, piece: &[u8])
     behind[..piece.len()].copy_from_slice(piece);
 }
 
-/// Makes room for `most` bytes behind the first `end`, or for fewer where memory for so many is
+/// Makes room for `most` bytes behind the first `end`, or for fewer where memory for all of them is
 /// refused. Returns for how many there is room. Returns `Memory` if there is room for none; nothing
 /// changes then.
 #[inline(always)]
@@ -156,7 +156,7 @@ impl Buffer {
     }
 
     /// Pulls once, and appends the bytes that came: at most `most`, and no more than `PULL_BYTES`;
-    /// where memory for so many is refused, as many as there is room for. Returns `Memory` if there
+    /// where memory for all of them is refused, as many as there is room for. Returns `Memory` if there
     /// is room for none; nothing is pulled then.
     pub fn pull<I: Input>(&mut self, input: &mut I, most: usize) -> Result<Pull, Fault>
         requires { 0 < most }

@@ -252,7 +252,7 @@ impl Source {
         self.rest.extend(piece)
     }
 
-    /// Pulls once, and appends the bytes that came, at most `most`; where memory for so many is
+    /// Pulls once, and appends the bytes that came, at most `most`; where memory for all of them is
     /// refused, as many as there is room for. Returns `Memory` if there is room for none; nothing is
     /// pulled then.
     #[inline(always)]

@@ -21,7 +21,7 @@ pub enum Event {
 }
 
 impl Event {
-    ghost use Rattle.std.specs.Prelude.{◌≡◌, true, IfOk, IsOk, IsOkUnless};
+    ghost use Rattle.std.specs.Prelude.{◌≡◌, ℕ, true, IfOk, IsOk, IsOkUnless};
     ghost use Rattle.uc_core.specs.Step.{actor, is_quiet};
 
     /// Returns the number of the worker that takes the event.
@@ -42,9 +42,9 @@ impl Event {
     pub fn try_clone(&self) -> Result<Event, Fault>
         ensures event { IfOk result (λ event. event ≡ self.now) }
         ensures memory { IsOkUnless result Fault.Memory }
-
-        // No event but an announcement or a replay needs memory.
+        // No event but an announcement needs memory.
         ensures quiet { is_quiet self.now ≡ true → IsOk result }
+        ensures replay { (worker : ℕ) → self.now ≡ Event.Replay worker → IsOk result }
     {
         Ok(match self {
             Event::Announce(worker, tenant, command) => {

@@ -7,7 +7,7 @@ use Rattle.uc_places.specs.declared.desk.Desk.{Desk}
 use Rattle.uc_places.specs.declared.view.Call.{Call}
 use Rattle.uc_places.specs.declared.view.Call.TheVariants.{Announce, Look, Propose, Read}
 use Rattle.uc_places.specs.declared.view.View.{View}
-use Rattle.uc_places.specs.Calls.{Makes, known, state_of, worker_of}
+use Rattle.uc_places.specs.Calls.{Makes, calls_of, known, state_of, worker_of}
 use Rattle.uc_places.specs.OneRun.{CallsLead, IsStill}
 use Rattle.uc_places.specs.Told.{told_list}
 use Rattle.uc_worker.specs.Counting.{TakesFew}
@@ -74,6 +74,11 @@ takes_proposed one old middle new helped found ticket takes looked proposed =
     takes_event 1 0 one middle new Propose _
     (takes_event 0 1 one old middle Look _ takes looked (omega arith))
     proposed (omega arith)
+
+-- one call more
+pub calls_more : (old new : Desk) (call : Call) (state : WorkerState) → Makes old new call state →
+    length (calls_of new) ≡ length (calls_of old) + 1
+calls_more old new call state made = ap (λ (v : View). length v.calls) made.2 ∙ length-append (calls_of old) (call ∷ [])
 
 pub takes_learned : (one old new : Desk) (state : WorkerState) → TakesFew 0 one old → Makes old new Read state →
     length (state_of new).learned ≡ length (state_of old).learned + 1 → TakesFew 0 one new

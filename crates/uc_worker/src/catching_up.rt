@@ -1,9 +1,10 @@
 //! Catching up with the log.
 ghost use Rattle.std.specs.Bool.{MatchBool};
-ghost use Rattle.std.specs.Prelude.{◌≡◌, ◌≤◌, ◌+◌, length, None, IfOk, IsOkUnless, OnOk, slice_get};
+ghost use Rattle.std.specs.Prelude.{◌≡◌, ◌<◌, ◌≤◌, ◌+◌, false, length, None, IfOk, IsOkUnless, OnOk, slice_get};
 ghost use Rattle.mc_model.specs.declared.fault.Fault.TheVariants as faults;
 ghost use Rattle.uc_log.specs.Passes.{IsOf, desk, learned, seat, size, state};
-ghost use Rattle.uc_worker.specs.Counting.{TakesFew};
+ghost use Rattle.uc_places.specs.Calls.{calls_of};
+ghost use Rattle.uc_worker.specs.Counting.{LooksOn, TakesFew};
 ghost use Rattle.uc_worker.specs.Going.{CatchesUp};
 ghost use Rattle.uc_worker.specs.Steps.{HasReadOn, LearnsExactly, Rests};
 ghost use Rattle.uc_worker.specs.Waiting.{LearnsOn};
@@ -27,6 +28,8 @@ fn read_up<G: Gate>(log: &Log, pass: &mut Pass, end: usize, gate: &mut G) -> boo
         (slice_get (seat pass.new).last.decided (length (learned pass.new)) ≡ None) }
     ensures few { length (learned pass.new) ≤ end }
     ensures takes { TakesFew 1 (desk pass.old) (desk pass.new) }
+    ensures looks { MatchBool result (length (learned pass.new) ≡ end)
+        (length (calls_of (desk pass.old)) < length (calls_of (desk pass.new))) }
 {
     for _place in pass.learned()..end {
         let found = log.read(pass);
@@ -48,6 +51,8 @@ impl<'a> Worker<'a> {
         // All places are learned, or the next one was empty in the log's state after the worker's
         // last event.
         ensures read { HasReadOn (seat_of self.new) }
+        // It has looked there itself.
+        ensures looks { LooksOn (own_desk self.old) (own_desk self.new) }
         // It takes at most two events for each place that it learns, and one more.
         ensures takes { TakesFew 1 (own_desk self.old) (own_desk self.new) }
         ensures told { (seat_of self.new).told ≡ (seat_of self.old).told }
@@ -72,6 +77,9 @@ impl<'a> Worker<'a> {
         ensures read { IfOk result (λ more. MatchBool more
             (LearnsExactly most (seat_of self.old) (seat_of self.new))
             (HasReadOn (seat_of self.new))) }
+        // If it says that nothing more was to be read, it has looked itself.
+        ensures looks { IfOk result (λ more. more ≡ false →
+            LooksOn (own_desk self.old) (own_desk self.new)) }
         ensures few { length (seat_of self.new).state.learned
             ≤ length (seat_of self.old).state.learned + most }
         // It takes at most two events for each place that it learns, and one more.

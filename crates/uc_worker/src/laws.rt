@@ -1,5 +1,5 @@
 //! What follows from the definitions. A law is the contract of a function with an empty body.
-ghost use Rattle.std.specs.Prelude.{◌≡◌, ◌⊎◌, ℕ, ◌+◌, length, refl};
+ghost use Rattle.std.specs.Prelude.{◌≡◌, ◌⊎◌, ℕ, ◌+◌, ◌<◌, ◌≤◌, length, refl};
 ghost use Rattle.std.proofs.Common.{◌∙◌};
 ghost use Rattle.lists.proofs.Public.{begins_self, begins_through};
 ghost use Rattle.mc_model.specs.declared.fault.Fault.{Fault};
@@ -7,9 +7,10 @@ ghost use Rattle.mc_model.specs.declared.fault.Fault.TheVariants.{LogFull, Memor
 ghost use Rattle.mc_model.specs.Legal.{count};
 ghost use Rattle.uc_places.specs.declared.desk.Desk.{Desk};
 ghost use Rattle.uc_places.specs.declared.view.View.{View};
+ghost use Rattle.uc_places.specs.Calls.{desk_size, state_of};
 ghost use Rattle.uc_places.specs.Reached.{LastIsReached};
 ghost use Rattle.uc_places.specs.SeatLaw.{SeatLaw};
-ghost use Rattle.uc_worker.specs.Counting.{TakesFew};
+ghost use Rattle.uc_worker.specs.Counting.{LooksOn, TakesFew};
 ghost use Rattle.uc_worker.specs.Going.{CatchesUp, Continues};
 ghost use Rattle.uc_worker.specs.Steps.{HasReadOn, Leaves};
 ghost use Rattle.uc_worker.specs.Worker.{HasReplayedAll, IsClosing, IsUpToDate, announced_of, history_of, seat_of};
@@ -64,11 +65,28 @@ pub fn a_log_of_one_worker_closes_at_its_end()
         IsClosing worker → IsUpToDate worker → HasReplayedAll worker }
 {}
 
-/// What a worker takes in one call after another adds up.
+/// Whoever announces a command only while its log isn't closing leaves as many places as there are
+/// workers after those that it has learned, as the law of the last places has it; and a log doesn't
+/// close before.
+pub fn a_log_closes_where_fewer_places_are_left()
+    ensures leaves { (worker : Worker) →
+        (seat_of worker).size.workers ≤ (seat_of worker).size.places → ¬ (IsClosing worker) →
+        length (seat_of worker).state.learned + (seat_of worker).size.workers
+        ≤ (seat_of worker).size.places }
+    ensures closes { (worker : Worker) →
+        (seat_of worker).size.workers ≤ (seat_of worker).size.places → IsClosing worker →
+        (seat_of worker).size.places
+        < length (seat_of worker).state.learned + (seat_of worker).size.workers }
+{}
+
+/// What a worker takes in one call after another adds up; and who takes no event looks on only where
+/// all places are learned.
 pub fn events_add_up()
     ensures none { (desk : Desk) → TakesFew 0 desk desk }
     ensures through { (few more : ℕ) (first second third : Desk) → TakesFew few first second →
         TakesFew more second third → TakesFew (few + more) first third }
+    ensures looks { (desk : Desk) → LooksOn desk desk →
+        length (state_of desk).learned ≡ (desk_size desk).places }
 {}
 
 /// A worker that has read on has learned as many places as were decided after its last event.

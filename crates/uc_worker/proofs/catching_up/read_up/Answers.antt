@@ -1,7 +1,7 @@
 -- A read, by which a place is learned, or which is the last.
-use Rattle.std.proofs.Common.{ℕ, ◌+◌, ap, ◌∙◌}
+use Rattle.std.proofs.Common.{ℕ, ◌+◌, ap, arith, ◌∙◌}
 use Rattle.uc_log.specs.Passes.{desk}
-use Rattle.uc_worker.proofs.Counting.{some_of, takes_learned, takes_read}
+use Rattle.uc_worker.proofs.Counting.{calls_more, some_of, takes_learned, takes_read}
 use Rattle.uc_worker.proofs.Learning.{later_through, learns_later, learns_more, learns_read}
 use Rattle.uc_worker.proofs.Told.{rests_read}
 use Rattle.uc_worker.proofs.catching_up.read_up.Goals as goal
@@ -9,6 +9,11 @@ use Rattle.uc_worker.proofs.catching_up.read_up.Goals as goal
 pub returns-then-is_none-clause-takes : goal.returns-then-is_none-clause-takes
 returns-then-is_none-clause-takes g c = takes_read (desk c.args.pass.now) (desk c.loop-place.pass) (desk c.read-found.new.pass) _
     c.loop-place.invariant.takes c.read-found.ensures.read.made
+
+pub returns-then-is_none-clause-looks : goal.returns-then-is_none-clause-looks
+returns-then-is_none-clause-looks g c =
+    let more = calls_more (desk c.loop-place.pass) (desk c.read-found.new.pass) _ _ c.read-found.ensures.read.made in
+    let before = c.loop-place.invariant.calls in omega (arith, more, before)
 
 pub loop-place-preserved : goal.loop-place-preserved
 loop-place-preserved g c =
@@ -21,4 +26,5 @@ loop-place-preserved g c =
       here = learns_more _ _ _ learns ∙ ap (λ (n : ℕ). n + 1) i.here;
       own = c.read-found.ensures.kept.own ∙ i.own;
       takes = takes_learned (desk c.args.pass.now) old new _ i.takes made (learns_more _ _ _ learns);
+      calls = (let more = calls_more old new _ _ made in let before = i.calls in omega (arith, more, before));
     }
