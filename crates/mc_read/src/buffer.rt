@@ -156,8 +156,8 @@ impl Buffer {
     }
 
     /// Pulls once, and appends the bytes that came: at most `most`, and no more than `PULL_BYTES`;
-    /// where memory for all of them is refused, as many as there is room for. Returns `Memory` if there
-    /// is room for none; nothing is pulled then.
+    /// where memory for all of them is refused, as many as there is room for. Returns `Memory` if
+    /// there is room for none; nothing is pulled then.
     pub fn pull<I: Input>(&mut self, input: &mut I, most: usize) -> Result<Pull, Fault>
         requires { 0 < most }
         ensures pulls { IfOk result

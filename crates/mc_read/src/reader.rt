@@ -492,8 +492,8 @@ impl Reader {
     }
 
     /// Pulls once, at most `most` bytes, and takes those that came, as `feed`. They come straight
-    /// into the reader's memory; where memory for all of them is refused, as many are pulled as there is
-    /// room for. Returns `Memory` if there is room for none; nothing is pulled then.
+    /// into the reader's memory; where memory for all of them is refused, as many are pulled as
+    /// there is room for. Returns `Memory` if there is room for none; nothing is pulled then.
     pub fn pull<I: Input>(&mut self, input: &mut I, most: usize) -> Result<Pull, Fault>
         requires { 0 < most }
         ensures pulls { IfOk result
