@@ -2,3 +2,4 @@ pub mod Flows
 pub mod Charging
 pub mod Looking
 pub mod Waiting
+pub mod Behind

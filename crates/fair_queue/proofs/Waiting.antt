@@ -8,7 +8,7 @@ use Rattle.fair_queue.specs.Turns.{Charges, ComesAfter, FlowState, GivesFirst, T
 use Rattle.fair_queue.specs.Fair.{QueueEvent, EventsLead, PassesOver, WaitsForOneQuantumEach, charged_to, comes, gives}
 
 -- a flow after a flow was put in some place
-at_put : (P : FlowState → Type 0) (state : QueueState) (place : ℕ) (flow : FlowState) → place < length state.flows →
+pub at_put : (P : FlowState → Type 0) (state : QueueState) (place : ℕ) (flow : FlowState) → place < length state.flows →
     (number : ℕ) → (number ≡ place → P flow) → (number ≢ place → P (flow_at state number)) →
     P (flow_at (with_flow state place flow) number)
 at_put P state place flow within number same other =
@@ -19,7 +19,7 @@ at_put P state place flow within number same other =
     ]
 
 -- the flow that has its turn is charged, or nothing is charged to this one
-charge_cases : (P : ℕ → Type 0) (turn other spent : ℕ) → (turn ≡ other → P spent) → (turn ≢ other → P 0) → P (cond (nat_eq turn other) spent 0)
+pub charge_cases : (P : ℕ → Type 0) (turn other spent : ℕ) → (turn ≡ other → P spent) → (turn ≢ other → P 0) → P (cond (nat_eq turn other) spent 0)
 charge_cases P turn other spent same unlike =
     elim (eqb_tells turn other) [
       | inl is ↦ subst (λ b. P (cond b spent 0)) (sym is.0) (same is.1)
@@ -35,22 +35,22 @@ comes_after count turn flow here within =
     ]
 
 -- what may yet be charged to another flow before the waiting one gives, whose turn isn't now
-record Ahead (state : QueueState) (waiting other most bound : ℕ) : Type 0 where
-  fair : IsFair state
-  here : waiting < length state.flows
+pub record Ahead (state : QueueState) (waiting other most bound : ℕ) : Type 0 where
+  pub fair : IsFair state
+  pub here : waiting < length state.flows
   waits : 0 < length (flow_at state waiting).ready
-  within : other < length state.flows
-  unlike : other ≢ waiting
+  pub within : other < length state.flows
+  pub unlike : other ≢ waiting
   ahead : (one two : ℕ) → ComesAfter (length state.flows) state.turn one other → ComesAfter (length state.flows) state.turn two waiting →
       one < two → (flow_at state other).credit + most ≤ bound
 
 -- the same where the waiting one may have its turn: a whole quantum, if that ends
-record MayTake (state : QueueState) (waiting other most bound : ℕ) : Type 0 where
-  before : Ahead state waiting other most bound
+pub record MayTake (state : QueueState) (waiting other most bound : ℕ) : Type 0 where
+  pub before : Ahead state waiting other most bound
   own : state.turn ≡ waiting → state.quantum + most ≤ bound
 
 -- a key that comes charges nothing
-after_push : (old new : QueueState) (flow key waiting other most bound : ℕ) → flow < length old.flows → IsPushed flow key old new →
+pub after_push : (old new : QueueState) (flow key waiting other most bound : ℕ) → flow < length old.flows → IsPushed flow key old new →
     MayTake old waiting other most bound → MayTake new waiting other most bound
 after_push old new flow key waiting other most bound within is may =
     let was = flow_at old flow in
@@ -183,10 +183,10 @@ after_give old new flow key waiting other most bound given isnt before =
     })
 
 -- what is left of a flow's quantum after a charge is no more than the quantum
-credit_left : (quantum credit spent : ℕ) → credit ≤ quantum → credit - spent ≤ quantum
+pub credit_left : (quantum credit spent : ℕ) → credit ≤ quantum → credit - spent ≤ quantum
 credit_left quantum credit spent most = omega (arith, most)
 
-renewed_few : (quantum credit spent : ℕ) → renewed quantum credit spent ≤ quantum
+pub renewed_few : (quantum credit spent : ℕ) → renewed quantum credit spent ≤ quantum
 renewed_few quantum credit spent = omega arith
 
 -- something that waits in a flow waits there after a charge, and a flow's credit changes only at its own charge
@@ -216,7 +216,7 @@ charged_state old flow credit waiting other most bound is few next turn fair her
     }
 
 -- at its own turn a flow other than the waiting one has what is left of its credit, and one more key's cost
-at_own_turn : (state : QueueState) (waiting other most bound : ℕ) → Ahead state waiting other most bound → state.turn ≡ other →
+pub at_own_turn : (state : QueueState) (waiting other most bound : ℕ) → Ahead state waiting other most bound → state.turn ≡ other →
     (flow_at state other).credit + most ≤ bound
 at_own_turn state waiting other most bound before same =
     let after = comes_after (length state.flows) state.turn waiting before.fair.turn before.here in
@@ -264,7 +264,7 @@ one_turn_back count turn next one other here follows unlike after = (
   ],
 )
 
-next_within : (count turn next : ℕ) → turn < count → IsNextTurn count turn next → next < count
+pub next_within : (count turn next : ℕ) → turn < count → IsNextTurn count turn next → next < count
 next_within count turn next here follows = elim follows [ inl more ↦ more.1 | inr wraps ↦ omega (arith, wraps.1, here) ]
 
 -- what is charged before a flow gives, and what may yet be charged then
@@ -338,7 +338,7 @@ after_ending old flow spent next waiting other most bound is few follows may =
     ))
 
 -- what one event charges is within what may be charged, and the rest may be charged afterwards
-after_giving : (old between new : QueueState) (flow key spent waiting other most bound : ℕ) → Charges spent old between → GivesFirst flow key between new →
+pub after_giving : (old between new : QueueState) (flow key spent waiting other most bound : ℕ) → Charges spent old between → GivesFirst flow key between new →
     flow ≢ waiting → spent ≤ most → MayTake old waiting other most bound →
     (let charge = cond (nat_eq old.turn other) spent 0 in (charge ≤ bound) × MayTake new waiting other most (bound - charge))
 after_giving old between new flow key spent waiting other most bound (goes_on was is on then) given isnt few may =
@@ -374,18 +374,23 @@ bounded (gives flow key spent ∷ events) old new waiting other most bound may l
     (bounded events lead.0 new waiting other most (bound - charge) step.1 lead.2 (All-tail (PassesOver waiting most) (gives flow key spent) events passes)) in
     omega (arith, step.0, rest)
 
+-- as something begins to wait in a flow, each other flow may be charged a quantum and one more key's cost
+pub may_take_anew : (state : QueueState) (waiting other most : ℕ) → IsFair state → waiting < length state.flows →
+    0 < length (flow_at state waiting).ready → other < length state.flows → other ≢ waiting →
+    MayTake state waiting other most (state.quantum + most)
+may_take_anew state waiting other most fair here waits within unlike = record {
+  before = record {
+    fair = fair;
+    here = here;
+    waits = waits;
+    within = within;
+    unlike = unlike;
+    ahead = λ one two first second less. omega (arith, fair.credit other);
+  };
+  own = λ same. omega arith;
+}
+
 pub waits_for_one_quantum_each : WaitsForOneQuantumEach
 waits_for_one_quantum_each old new events waiting other most fair here waits within unlike lead passes =
     bounded events old new waiting other most (old.quantum + most)
-    (record {
-      before = record {
-        fair = fair;
-        here = here;
-        waits = waits;
-        within = within;
-        unlike = unlike;
-        ahead = λ one two first second less. omega (arith, fair.credit other);
-      };
-      own = λ same. omega arith;
-    })
-    lead passes
+    (may_take_anew old waiting other most fair here waits within unlike) lead passes

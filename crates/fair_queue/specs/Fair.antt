@@ -2,7 +2,7 @@
 -- meanwhile. The turns are those of surplus round-robin, a form of deficit round-robin (M.
 -- Shreedhar, G. Varghese, SIGCOMM 1995), as `Turns` has them; the events, and the bound as it is
 -- stated here, are this project's own.
-use Rattle.std.specs.Prelude.{◌≡◌, ◌≢◌, ℕ, ◌+◌, ◌<◌, ◌≤◌, List, [], ◌∷◌, All, length, cond, nat_eq}
+use Rattle.std.specs.Prelude.{◌≡◌, ◌≢◌, ℕ, ◌+◌, ◌*◌, ◌<◌, ◌≤◌, List, [], ◌∷◌, All, length, cond, nat_eq}
 use Rattle.fair_queue.specs.Turns.{Charges, GivesFirst, IsFair, IsPushed, QueueState, flow_at}
 
 -- what happens to a queue: a key is put into a flow, or a flow gives one, once this was spent on
@@ -44,3 +44,28 @@ WaitsForOneQuantumEach =
     other < length old.flows → other ≢ waiting → EventsLead old events new →
     All (PassesOver waiting most) events →
     charged_to other old.turn events ≤ old.quantum + most
+
+-- how many keys a flow gives in these events
+abbrev pub keys_given : ℕ → List QueueEvent → ℕ
+keys_given flow [] = 0
+keys_given flow (comes other key ∷ events) = keys_given flow events
+keys_given flow (gives other key spent ∷ events) =
+    cond (nat_eq other flow) 1 0 + keys_given flow events
+
+-- no key that was given before another gives one costs more than that
+abbrev pub CostsAtMost : ℕ → QueueEvent → Type 0
+CostsAtMost most (comes flow key) = Unit {0}
+CostsAtMost most (gives flow key spent) = spent ≤ most
+
+-- While a key waits in a flow behind `ahead` others, no other flow is charged more than a quantum
+-- and what the dearest key costs for each of these others and once more for the key itself, however
+-- many wait there, and whatever comes. That is while the flow, in which more than `ahead` waited at
+-- the beginning, gives at most that many; the dearest is of those that are given meanwhile, in
+-- whichever flow, and the one given just before.
+abbrev pub WaitsForOneQuantumPerKey : Type 0
+WaitsForOneQuantumPerKey =
+    (old new : QueueState) (events : List QueueEvent) (waiting other ahead most : ℕ) →
+    IsFair old → waiting < length old.flows → ahead < length (flow_at old waiting).ready →
+    other < length old.flows → other ≢ waiting → EventsLead old events new →
+    keys_given waiting events ≤ ahead → All (CostsAtMost most) events →
+    charged_to other old.turn events ≤ (ahead + 1) * (old.quantum + most)

@@ -1,6 +1,6 @@
 //! What the calls of a queue come to, however they follow one another.
 ghost use Rattle.std.specs.Prelude.{◌≡◌, ℕ, ◌+◌, ◌-◌, ◌<◌, ◌≤◌};
-ghost use Rattle.fair_queue.specs.Fair.{WaitsForOneQuantumEach};
+ghost use Rattle.fair_queue.specs.Fair.{WaitsForOneQuantumEach, WaitsForOneQuantumPerKey};
 ghost use Rattle.fair_queue.specs.Turns.{renewed};
 
 /// While something waits in a flow and the flow gives nothing, each other flow is charged at most a
@@ -9,6 +9,16 @@ ghost use Rattle.fair_queue.specs.Turns.{renewed};
 /// fair, as `new`, `push` and `next` leave it.
 pub fn a_flow_waits_for_one_quantum_of_each_other()
     ensures { WaitsForOneQuantumEach }
+{}
+
+/// While a key waits in a flow behind `ahead` others, each other flow is charged at most a quantum
+/// and what the dearest key costs for each of these others, and once more for the key itself,
+/// however many wait in it and whatever comes. The dearest is of those that are given meanwhile, in
+/// whichever flow, and the one that was given just before. It starts from any queue that is fair,
+/// as `new`, `push` and `next` leave it. With none ahead it says what
+/// `a_flow_waits_for_one_quantum_of_each_other` does.
+pub fn a_key_waits_for_one_quantum_of_each_other_flow_per_key_up_to_it()
+    ensures { WaitsForOneQuantumPerKey }
 {}
 
 /// What a flow took beyond its quantum in one turn is taken off the next one's, of which at least 1
