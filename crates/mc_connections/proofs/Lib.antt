@@ -3,6 +3,7 @@ pub mod Counts
 pub mod EachAnswered
 pub mod Lives
 pub mod Numbers
+pub mod Rounds
 pub mod SeenInOrder
 pub mod Servings
 pub mod Turning

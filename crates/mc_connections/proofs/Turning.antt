@@ -18,12 +18,13 @@ gave spent key flow old new is same (between, charged, given) out = record {
   taken = out;
 }
 
-pub idled : (spent : ℕ) (old new : Waiting) → spent ≡ old.spent →
+pub idled : (spent : ℕ) (old new : Waiting) → spent ≡ old.spent → new.spent ≡ 0 →
     ((between : QueueState) × Charges spent old.queue between × (IsIdle between × (new.queue ≡ between))) → EndsRound old new
-idled spent old new is (between, charged, ended) =
+idled spent old new is none (between, charged, ended) =
     inr (
       subst (λ n. Charges n old.queue new.queue) is (subst (Charges spent old.queue) (sym ended.1) charged),
       subst IsIdle (sym ended.1) ended.0,
+      none,
     )
 
 -- what a connection has cost doesn't matter to where it waits

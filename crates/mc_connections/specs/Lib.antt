@@ -5,6 +5,7 @@ pub mod InQueue
 pub mod InTurn
 pub mod Life
 pub mod Moving
+pub mod Round
 pub mod Seen
 pub mod Serving
 pub mod Waiting

@@ -51,7 +51,7 @@ abbrev pub IsRoundOver : Waiting → Type 0
 IsRoundOver waiting = (ROUND ≤ waiting.spent_in_round)
     × ¬ (TurnGoesOn waiting.spent (flow_at waiting.queue waiting.queue.turn))
 
--- the round is over, or nobody waits
+-- the round is over; or nobody waits, once what the last one has cost is charged
 abbrev pub EndsRound : Waiting → Waiting → Type 0
 EndsRound old new = IsRoundOver old × (new ≡ old)
-    ⊎ Charges old.spent old.queue new.queue × IsIdle new.queue
+    ⊎ Charges old.spent old.queue new.queue × IsIdle new.queue × (new.spent ≡ 0)

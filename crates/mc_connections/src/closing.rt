@@ -1,6 +1,6 @@
 //! Streams that close: nothing more is sent on them, but their peers may still have to receive what
 //! was.
-ghost use Rattle.std.specs.Prelude.{◌≡◌, ◌+◌, ◌<◌, ◌≤◌, IfSome, None, vec_len};
+ghost use Rattle.std.specs.Prelude.{◌≡◌, ◌⊎◌, ◌+◌, ◌<◌, ◌≤◌, IfNone, IfSome, None, vec_len};
 ghost use Rattle.mc_connections.specs.declared.closing.TheConstants.{DROPPED_BYTES, MOST_CLOSING};
 
 use mc_conn::PULL_BYTES;
@@ -25,6 +25,8 @@ pub(crate) fn place_of(token: Token) -> Option<usize>
     ensures place { IfSome result (λ place. token.0 ≡ FIRST_TOKEN + place) }
     ensures within { IfSome result (λ place. place < MOST_CLOSING) }
     ensures key { token.0 < FIRST_TOKEN → result ≡ None }
+    ensures none { IfNone result
+        (token.0 < FIRST_TOKEN ⊎ FIRST_TOKEN + MOST_CLOSING ≤ token.0) }
 {
     match token.0.checked_sub(FIRST_TOKEN) {
         Some(place) if place < MOST_CLOSING => Some(place),

@@ -2,11 +2,13 @@
 ghost use Rattle.std.specs.Prelude.{◌≡◌, ◌+◌, ◌-◌, ◌*◌, ◌^◌, ◌≤◌, ◌↔◌, length, min, All, IfOk, IsTrue, OnOk};
 ghost use Rattle.fair_queue.specs.Turns.{IsIdle};
 ghost use Rattle.mc_connections.specs.InQueue.{HasLetWait, HasServedNext};
+ghost use Rattle.mc_connections.specs.Round.{HaveCome, MakesRound, queued_at};
 ghost use Rattle.mc_connections.specs.Serving.{tenant_at};
 ghost use Rattle.mc_connections.specs.Tallying.{CountsForTenant, CountsNothing};
 ghost use Rattle.mc_connections.specs.Waiting.{ComesToWait};
 ghost use Rattle.mc_connections.specs.Working.{IsNewFor, KeepsPlaces, Works, standing};
 ghost use Rattle.mc_connections.specs.declared.places.TheConstants.{MOST_CONNECTIONS};
+ghost use Rattle.mio.specs.Events.{items};
 ghost use Rattle.uc_worker.specs.Worker.{tenants_of};
 
 use crate::closing::{Closing, place_of};
@@ -85,6 +87,7 @@ impl ReadyQueue {
         ensures waits { OnOk result (ComesToWait (tenant_at self.old.connections next.key) next.key
             self.old.waiting self.new.waiting) }
         ensures spent { self.new.waiting.spent ≡ self.old.waiting.spent }
+        ensures round { self.new.waiting.spent_in_round ≡ self.old.waiting.spent_in_round }
         ensures same { self.new.connections ≡ self.old.connections }
         ensures tallies { self.new.tallies ≡ self.old.tallies }
     {
@@ -112,6 +115,8 @@ impl ReadyQueue {
         ensures tallies { CountsForTenant next.key (standing worker.old self.old.connections)
             (standing worker.new self.new.connections) self.old.tallies.all.items
             self.new.tallies.all.items }
+        ensures round { self.new.waiting.spent_in_round
+            ≡ min (self.old.waiting.spent_in_round + self.new.waiting.spent) (2 ^ 64 - 1) }
     {
         let Next { key, stops_short } = next;
         let closing = &mut self.closing;
@@ -147,7 +152,10 @@ impl ReadyQueue {
         buffer: &mut [u8; PULL_BYTES],
         events: &Events,
     ) -> Result<bool, AllocError>
-        ensures { self.new.connections ≡ self.old.connections }
+        ensures come { OnOk result (HaveCome self.old.connections self.old.waiting
+            (items events.now) self.new.waiting) }
+        ensures same { self.new.connections ≡ self.old.connections }
+        ensures tallies { self.new.tallies ≡ self.old.tallies }
     {
         let mut is_woken = false;
         for event in events {
@@ -181,8 +189,10 @@ impl ReadyQueue {
         events: &Events,
     ) -> Result<bool, AllocError>
         requires { self.old.connections.tenants ≡ length (tenants_of worker.old) }
-        ensures { Works until_done (standing worker.old self.old.connections)
+        ensures works { Works until_done (standing worker.old self.old.connections)
             (standing worker.new self.new.connections) }
+        ensures round { OnOk result (MakesRound until_done (items events.now)
+            (queued_at worker.old self.old) (queued_at worker.new self.new)) }
     {
         let is_woken = self.note_events(buffer, events)?;
         self.waiting.begin_round();

@@ -80,6 +80,7 @@ impl Waiting {
         ensures noted { IsNoted next.key
             (Some (short_with (short_at self.old next.key) next.stops_short)) self.old self.new }
         ensures spent { self.new.spent ≡ self.old.spent }
+        ensures round { self.new.spent_in_round ≡ self.old.spent_in_round }
     {
         let Some(waits) = self.waits.get_mut(next.key) else {
             return Ok(());
@@ -107,6 +108,7 @@ impl Waiting {
         ensures short { result ≡ unwrap_or (short_at self.old key) false }
         ensures queue { self.new.queue ≡ self.old.queue }
         ensures spent { self.new.spent ≡ self.old.spent }
+        ensures round { self.new.spent_in_round ≡ self.old.spent_in_round }
     {
         match self.waits.get_mut(key) {
             Some(waits) => waits.take().unwrap_or(false),
@@ -130,6 +132,7 @@ impl Waiting {
         ensures noted { MatchOption result (self.new.waits.items ≡ self.old.waits.items)
             (λ next. IsNoted next.key None self.old self.new
             × (next.stops_short ≡ unwrap_or (short_at self.old next.key) false)) }
+        ensures round { self.new.spent_in_round ≡ self.old.spent_in_round }
     {
         if self.is_round_over() {
             return None;
