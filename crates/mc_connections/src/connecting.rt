@@ -14,7 +14,7 @@ use crate::arrival::{Admission, Arrival};
 use crate::closing::Closing;
 use crate::connection::Connection;
 use crate::connections::{Connections, is_among};
-use crate::pace::{Pace, REQUESTS_OF_A_READ};
+use crate::pace::{ALONE, Pace, SHARED, Share};
 use crate::socket::{SocketInput, SocketOutput, Spends};
 use mc_conn::{Conn, PULL_BYTES, Role, State};
 use mc_counters::Tally;
@@ -79,9 +79,9 @@ fn turn_once<I: Input, O: Output, G: Gate>(
     }
 }
 
-/// Makes turns until nothing is left to do, `TURNS` were made, `REQUESTS_OF_A_READ` were answered,
-/// the output is spent, a command is left to the next log, or a fault has ended the connection.
-/// Each pulls at most `most` bytes. Returns the connection's state afterwards.
+/// Makes turns until nothing is left to do, `TURNS` were made, `requests` were answered, the output
+/// is spent, a command is left to the next log, or a fault has ended the connection. Each pulls at
+/// most `most` bytes. Returns the connection's state afterwards.
 fn turns<I: Input, O: Output + Spends, G: Gate>(
     until_done: bool,
     conn: &mut Conn,
@@ -90,6 +90,7 @@ fn turns<I: Input, O: Output + Spends, G: Gate>(
     output: &mut O,
     gate: &mut G,
     most: usize,
+    requests: u64,
     tally: &mut Tally,
 ) -> State
     requires { FitsLog conn.old.role worker.old }
@@ -109,7 +110,7 @@ fn turns<I: Input, O: Output + Spends, G: Gate>(
     // The laws from which the clauses on all turns follow.
     mc_conn::laws::turns_add_up();
     mc_conn::laws::counts_add_up();
-    let last = conn.answered().saturating_add(REQUESTS_OF_A_READ);
+    let last = conn.answered().saturating_add(requests);
     for _ in 0..TURNS {
         match turn_once(until_done, conn, worker, input, output, gate, most, tally) {
             Ok(State::Busy) => {
@@ -125,13 +126,15 @@ fn turns<I: Input, O: Output + Spends, G: Gate>(
 }
 
 impl Connection {
-    /// Makes turns over the connection's stream. The tally counts the requests.
+    /// Makes turns over the connection's stream, which take no more than its share. The tally counts
+    /// the requests.
     fn serve<G: Gate>(
         &mut self,
         until_done: bool,
         worker: &mut Worker<'_>,
         gate: &mut G,
         stops_short: bool,
+        share: Share,
         tally: &mut Tally,
     ) -> Served
         requires { FitsLog self.old.conn.role worker.old }
@@ -158,7 +161,7 @@ impl Connection {
         let tape = mem::replace(received, Tape::new());
         let mut input = SocketInput::resume(stream, stops_short, tape, came);
         let tape = mem::replace(sent, Tape::new());
-        let mut output = SocketOutput::resume(stream, tape, went);
+        let mut output = SocketOutput::resume(stream, tape, went, share.written);
         let state = turns(
             until_done,
             conn,
@@ -166,7 +169,8 @@ impl Connection {
             &mut input,
             &mut output,
             gate,
-            pace.most_read(),
+            pace.most_read(share.requests),
+            share.requests,
             tally,
         );
         (*received, *bytes_received) = input.into_parts();
@@ -195,6 +199,15 @@ impl Connections {
         match self.by_key.get(key)?.conn.role() {
             Role::Tenant(tenant) => Some(usize::from(tenant.number())),
             Role::Admin(_) => None,
+        }
+    }
+
+    /// Returns how much serving the connection under a key may take: less if not all that there are
+    /// are its tenant's.
+    fn share_of(&self, key: usize) -> Share {
+        match self.tenant_of(key) {
+            Some(tenant) if self.places.held_by(tenant) >= self.by_key.len() => ALONE,
+            _ => SHARED,
         }
     }
 
@@ -258,6 +271,7 @@ impl Connections {
         ensures tally { TalliesAt key result.state (standing worker.old self.old)
             (standing worker.new self.new) tally.old tally.new }
     {
+        let share = self.share_of(key);
         let Some(connection) = self.by_key.get_mut(key) else {
             return Served {
                 state: State::Idle,
@@ -265,7 +279,7 @@ impl Connections {
                 bytes: 0,
             };
         };
-        let served = connection.serve(until_done, worker, gate, stops_short, tally);
+        let served = connection.serve(until_done, worker, gate, stops_short, share, tally);
         if served.state == State::Closed {
             let Some(connection) = self.by_key.try_remove(key) else {
                 unreachable!();

@@ -1,10 +1,29 @@
-//! How much of a connection's stream a read takes.
+//! How much one serve of a connection takes of its stream.
 
 use mc_conn::PULL_BYTES;
 
-/// How many requests a read is to bring at most, so that a turn is short where they are small; once
-/// as many were answered there is no further turn.
-pub(crate) const REQUESTS_OF_A_READ: u64 = 32;
+/// How much one serve of a connection takes.
+#[derive(Clone, Copy)]
+pub(crate) struct Share {
+    /// How many requests a read is to bring at most, so that a turn is short where they are small;
+    /// once as many were answered there is no further turn.
+    pub requests: u64,
+    /// How many bytes are written at most, so that a long reply doesn't hold up others.
+    pub written: usize,
+}
+
+/// What a serve takes where only one tenant has connections: enough for a reply with data of 64
+/// KiB.
+pub(crate) const ALONE: Share = Share {
+    requests: 32,
+    written: 69_632,
+};
+
+/// What it takes where others have some too, who wait meanwhile: half as much.
+pub(crate) const SHARED: Share = Share {
+    requests: 16,
+    written: 34_816,
+};
 
 /// How many bytes a read takes at most where a connection's requests are small, or not known yet.
 const LEAST_READ: usize = 1_024;
@@ -43,15 +62,15 @@ impl Pace {
         }
     }
 
-    /// Returns how many bytes the next reads take at most.
+    /// Returns how many bytes the next reads take at most, to bring this many requests.
     ///
     /// That is as many as a read may take if bytes came and nothing was answered yet, since a block
     /// may be on its way.
-    pub(crate) fn most_read(&self) -> usize {
+    pub(crate) fn most_read(&self, requests: u64) -> usize {
         if self.unanswered > 0 {
             return PULL_BYTES;
         }
-        let bytes = self.mean.saturating_mul(REQUESTS_OF_A_READ) as usize;
+        let bytes = self.mean.saturating_mul(requests) as usize;
         bytes.clamp(LEAST_READ, PULL_BYTES)
     }
 }
