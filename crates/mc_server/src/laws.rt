@@ -1,15 +1,13 @@
 //! What follows of the logs that tenants were served on. A law is the contract of a function with
 //! an empty body, or with calls of the laws from which it follows.
 ghost use Rattle.std.specs.Prelude.{◌≡◌};
-ghost use Rattle.mc_programs.specs.declared.options.TheConstants.{MAX_GENERATIONS as MAX_GENERATIONS_OF_ONE};
 ghost use Rattle.mc_server.specs.CoreRuns.{AnnouncesInServedOrder, ClosedLogsAreCoreRuns, ClosedLogsDecidedNoMore, LastLogsAreCoreRuns, LastLogsComeBackOnCoreRuns, RunsKeepOwnOrder, RunsKeepSeenOrder};
 ghost use Rattle.mc_server.specs.declared.network_words.TheConstants.{MAX_GENERATIONS, MAX_LOG_BYTES};
 
-/// At most 65,536 logs may be asked for, one after another, as of the programs of one tenant, and at
-/// most 1,099,511,627,776 bytes of a log's commands.
+/// At most 65,536 logs may be asked for, one after another, and at most 1,099,511,627,776 bytes of
+/// a log's commands.
 pub fn numbers_of_a_service()
     ensures generations { MAX_GENERATIONS ≡ 65536 }
-    ensures of_one_tenant { MAX_GENERATIONS_OF_ONE ≡ 65536 }
     ensures log_bytes { MAX_LOG_BYTES ≡ 1099511627776 }
 {}
 
