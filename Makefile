@@ -132,6 +132,7 @@ bench: kit ## measures the built programs; the figures of docs/BENCHMARKS.md com
 	@python3 bench/wfmc.py
 	@python3 bench/neighbours.py
 	@python3 bench/operating.py
+	@python3 bench/residents.py
 	@python3 bench/generations.py
 	@python3 bench/schedule.py
 	@python3 bench/profile.py

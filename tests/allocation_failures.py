@@ -471,7 +471,7 @@ class Tests:
 
 # A row of cells is a list and its box, and the value has a box.
 CELLS = Tests(
-    crate="crates/uc_worker_tests",
+    crate="crates/uc_places_tests",
     module="cells::memory",
     reported="the call reported that memory ran out, and wrote nothing",
     asks={"cells::memory::a_put_reports_out_of_memory": 3, "cells::memory::a_sighting_reports_out_of_memory": 3},

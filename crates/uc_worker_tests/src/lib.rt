@@ -1,7 +1,7 @@
-//! Tests of the log, its cells and its workers, through what their crates make public: threads that
-//! see what others put, submit and meet, workers that stop at any of their steps, and answers that
-//! are recomputed. They are in one crate above those that they test: a crate with tests is proved
-//! twice, and each crate of tests loads its libraries anew.
+//! Tests of workers, through what their crates make public: threads that submit and meet, workers
+//! that stop at any of their steps, and answers that are recomputed. They are in one crate above
+//! those that they test: a crate with tests is proved twice, and each crate of tests loads its
+//! libraries anew.
 #![tactic(auto)]
 
 #[cfg(test)]
@@ -10,8 +10,6 @@ mod alone;
 mod answers;
 #[cfg(test)]
 mod asking;
-#[cfg(test)]
-mod cells;
 #[cfg(test)]
 mod clients;
 #[cfg(test)]
@@ -34,7 +32,6 @@ mod hundred;
 mod meeting;
 #[cfg(test)]
 mod parts;
-pub mod places;
 #[cfg(test)]
 mod recomputing;
 #[cfg(test)]

@@ -1,6 +1,6 @@
 use Rattle.std.proofs.Common.{All}
-use Rattle.uc_worker_tests.specs.Places.{IsSeenIn}
-use Rattle.uc_worker_tests.proofs.cells.threads.agreed.Given as goal
+use Rattle.uc_places_tests.specs.Places.{IsSeenIn}
+use Rattle.uc_places_tests.proofs.cells.threads.agreed.Given as goal
 
 abbrev pub invariant-loop-one : goal.invariant-loop-one
 invariant-loop-one g l =

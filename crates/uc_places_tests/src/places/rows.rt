@@ -1,5 +1,5 @@
 //! Golden runs of two workers on eight places, on one thread.
-ghost use Rattle.uc_worker_tests.specs.Held.{IsHeldAt, held_desk};
+ghost use Rattle.uc_places_tests.specs.Held.{IsHeldAt, held_desk};
 ghost use Rattle.std.specs.Prelude.{◌≡◌, ℕ, slice_get, Some, IfSome, IfOk};
 ghost use Rattle.uc_places.specs.Calls.{IsSeatOf};
 ghost use Rattle.uc_places.specs.Seats.{desk_of};

@@ -1,7 +1,7 @@
 use Rattle.std.proofs.Common.{All, subst}
 use Rattle.std.proofs.lemmas.List.Elements.{All-head, All-push, All-rest}
-use Rattle.uc_worker_tests.specs.Places.{IsSeenIn}
-use Rattle.uc_worker_tests.proofs.cells.threads.agreed.Goals as goal
+use Rattle.uc_places_tests.specs.Places.{IsSeenIn}
+use Rattle.uc_places_tests.proofs.cells.threads.agreed.Goals as goal
 
 pub loop-one-preserved : goal.loop-one-preserved
 loop-one-preserved g c =

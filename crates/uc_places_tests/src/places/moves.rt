@@ -2,7 +2,7 @@
 ghost use Rattle.std.specs.Prelude.{◌≡◌, IfSome};
 ghost use Rattle.uc_places.specs.Calls.{IsSeatOf};
 ghost use Rattle.uc_places.specs.Seats.{desk_of};
-ghost use Rattle.uc_worker_tests.specs.Held.{IsHeldAt, held_desk};
+ghost use Rattle.uc_places_tests.specs.Held.{IsHeldAt, held_desk};
 
 use uc_places::{Idle, Looked, Pending, Places, Seat};
 

@@ -1,7 +1,7 @@
 //! Threads that see cells while another puts them: all sightings of a cell are equal, and outlive
 //! the threads that made them.
 ghost use Rattle.std.specs.Prelude.{◌≡◌, All, IfOk};
-ghost use Rattle.uc_worker_tests.specs.Places.{IsSeenIn};
+ghost use Rattle.uc_places_tests.specs.Places.{IsSeenIn};
 ghost use Rattle.uc_cells.specs.Cells.{HasCell, row_at};
 
 use crate::cells::values::ticket_in;

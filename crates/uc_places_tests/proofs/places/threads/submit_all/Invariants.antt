@@ -1,6 +1,6 @@
 -- The seat is of this opening.
 use Rattle.uc_places.specs.Calls.{IsSeatOf}
-use Rattle.uc_worker_tests.proofs.places.threads.submit_all.Given as goal
+use Rattle.uc_places_tests.proofs.places.threads.submit_all.Given as goal
 
 abbrev pub invariant-loop : goal.invariant-loop
 invariant-loop l = IsSeatOf l.places l.idle.desk

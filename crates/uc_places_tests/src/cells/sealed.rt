@@ -1,6 +1,6 @@
 //! What was seen is kept without the cells, and shown again without memory, on any thread.
 ghost use Rattle.std.specs.Prelude.{◌≡◌, IfOk};
-ghost use Rattle.uc_worker_tests.specs.Places.{IsSeenIn};
+ghost use Rattle.uc_places_tests.specs.Places.{IsSeenIn};
 ghost use Rattle.uc_cells.specs.Cells.{HasCell};
 
 use crate::cells::threads::{assert_agreed, put_or_see};

@@ -2,8 +2,8 @@
 use Rattle.uc_places.specs.declared.desk.Desk.{Desk}
 use Rattle.uc_places.specs.declared.desk.Places.{Places}
 use Rattle.uc_places.specs.Calls.{IsSeatOf}
-use Rattle.uc_worker_tests.specs.declared.places.moves.Held.{Held}
-use Rattle.uc_worker_tests.specs.declared.places.moves.Held.TheVariants as held
+use Rattle.uc_places_tests.specs.declared.places.moves.Held.{Held}
+use Rattle.uc_places_tests.specs.declared.places.moves.Held.TheVariants as held
 
 -- the desk of a seat in any phase
 abbrev pub held_desk : Held → Desk
