@@ -6,3 +6,5 @@
 #[cfg(test)]
 mod cells;
 pub mod places;
+#[cfg(test)]
+mod texts;
