@@ -1,11 +1,11 @@
 -- A round, one event and one connection at a time.
-use Rattle.std.proofs.Common.{◌≡◌, ◌⊎◌, ◌∙◌, ◌+◌, ◌<◌, ◌≤◌, ◌∷◌, ◌++◌, ℕ, Bool, List, [], append_assoc, arith, inl, inr, length, refl, subst}
+use Rattle.std.proofs.Common.{◌≡◌, ◌⊎◌, ◌∙◌, ◌+◌, ◌<◌, ◌≤◌, ◌∷◌, ◌++◌, ℕ, Bool, List, [], Some, append_assoc, arith, inl, inr, length, refl, subst}
 use Rattle.lists.proofs.Public.{all_taken}
 use Rattle.mio.specs.Event.{event_token}
 use Rattle.mio.specs.declared.event.event.Event.{Event}
-use Rattle.mc_connections.specs.Round.{HaveCome, MakesRound, NotesEvent, Queued, ServeInTurn, ServesNext, none_came, none_served, one_came, one_served, queued_at}
+use Rattle.mc_connections.specs.Round.{HaveCome, MakesRound, NotesEvent, Queued, ServeInTurn, ServesNext, none_came, none_served, one_came, one_served, queued_at, short_of}
 use Rattle.mc_connections.specs.Serving.{tenant_at}
-use Rattle.mc_connections.specs.Waiting.{ComesToWait, EndsRound}
+use Rattle.mc_connections.specs.Waiting.{ComesToWait, EndsRound, IsNoted, short_at, short_with}
 use Rattle.mc_connections.specs.declared.closing.TheConstants.{FIRST_TOKEN}
 use Rattle.mc_connections.specs.declared.connections.Connections.{Connections}
 use Rattle.mc_connections.specs.declared.connections.TheConstants.{MOST_OF_ALL}
@@ -39,13 +39,17 @@ pub noted_other : (connections : Connections) (event : Event) (token : ℕ) (now
 noted_other connections event token now is past = inr (λ of. let no : ⊥ = omega (arith, is, past, of) in no, refl)
 
 -- the event is a connection's, which came to wait
-pub noted_one : (connections same : Connections) (event : Event) (token : ℕ) (old new : Waiting) → same ≡ connections → token ≡ (event_token event).0 → token < FIRST_TOKEN →
-    ComesToWait (tenant_at same token) token old new → new.spent ≡ old.spent → new.spent_in_round ≡ old.spent_in_round → NotesEvent connections event old new
-noted_one connections same event token old new kept is key waits spent round =
+pub noted_one : (connections same : Connections) (event : Event) (token : ℕ) (short : Bool) (old new : Waiting) → same ≡ connections → token ≡ (event_token event).0 → short ≡ short_of event →
+    token < FIRST_TOKEN → ComesToWait (tenant_at same token) token old new → IsNoted token (Some (short_with (short_at old token) short)) old new → new.spent ≡ old.spent → new.spent_in_round ≡ old.spent_in_round → NotesEvent connections event old new
+noted_one connections same event token short old new kept is says key waits noted spent round =
     let comes : ComesToWait (tenant_at connections token) token old new = subst (λ (connections : Connections). ComesToWait (tenant_at connections token) token old new) kept waits in
+    let notes : IsNoted token (Some (short_with (short_at old token) (short_of event))) old new = subst (λ (short : Bool). IsNoted token (Some (short_with (short_at old token) short)) old new) says noted in
     inl (
       subst (λ token. token < FIRST_TOKEN) is key,
-      subst (λ token. ComesToWait (tenant_at connections token) token old new) is comes,
+      (
+        subst (λ token. ComesToWait (tenant_at connections token) token old new) is comes,
+        subst (λ (token : ℕ). IsNoted token (Some (short_with (short_at old token) (short_of event))) old new) is notes,
+      ),
       spent,
       round,
     )

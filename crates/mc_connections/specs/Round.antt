@@ -1,11 +1,11 @@
 -- What a round is, in which a worker serves the connections of its queue; this project's profile.
-use Rattle.std.specs.Prelude.{◌≡◌, ◌⊎◌, ℕ, ◌+◌, ◌-◌, ◌^◌, ◌<◌, ◌≤◌, Bool, List, [], ◌∷◌, ◌++◌, min}
-use Rattle.mio.specs.Event.{event_token}
+use Rattle.std.specs.Prelude.{◌≡◌, ◌⊎◌, ℕ, ◌+◌, ◌-◌, ◌^◌, ◌<◌, ◌≤◌, ◌&&◌, not, Bool, None, List, [], ◌∷◌, ◌++◌, min}
+use Rattle.mio.specs.Event.{event_token, is_error, is_read_closed}
 use Rattle.mio.specs.declared.event.event.Event.{Event}
 use Rattle.mc_connections.specs.InQueue.{HasLetWait, HasServedNext}
 use Rattle.mc_connections.specs.Serving.{tenant_at}
 use Rattle.mc_connections.specs.Tallying.{CountsForTenant}
-use Rattle.mc_connections.specs.Waiting.{ComesToWait, EndsRound, IsRoundOver, TakesTurn}
+use Rattle.mc_connections.specs.Waiting.{EndsRound, IsNoted, IsRoundOver, LetsWait, TakesTurn}
 use Rattle.mc_connections.specs.Working.{Standing, standing}
 use Rattle.mc_connections.specs.declared.closing.TheConstants.{FIRST_TOKEN}
 use Rattle.mc_connections.specs.declared.connections.Connections.{Connections}
@@ -33,12 +33,18 @@ queued_at worker ready = record {
 abbrev pub IsOfConnection : Event → Type 0
 IsOfConnection event = (event_token event).0 < FIRST_TOKEN
 
--- if the event is of a connection that one came to wait, in its tenant's flow, and nothing has
--- changed of what is spent; and otherwise all is as it was
+-- a read that fills less than its buffer is the last one for the event: the peer hasn't closed, nor
+-- has the stream failed
+abbrev pub short_of : Event → Bool
+short_of event = not (is_read_closed event) && not (is_error event)
+
+-- if the event is of a connection that one, and no other, came to wait, in its tenant's flow, and
+-- nothing has changed of what is spent; and otherwise all is as it was
 abbrev pub NotesEvent : Connections → Event → Waiting → Waiting → Type 0
 NotesEvent connections event old new =
     IsOfConnection event
-    × ComesToWait (tenant_at connections (event_token event).0) (event_token event).0 old new
+    × LetsWait (tenant_at connections (event_token event).0) (event_token event).0
+    (short_of event) old new
     × (new.spent ≡ old.spent) × (new.spent_in_round ≡ old.spent_in_round)
     ⊎ ¬ (IsOfConnection event) × (new ≡ old)
 
@@ -50,14 +56,15 @@ pub data HaveCome (connections : Connections) (first : Waiting) : List Event →
       HaveCome connections first earlier between → NotesEvent connections event between last →
       HaveCome connections first (earlier ++ event ∷ []) last
 
--- The round wasn't over, and the connection whose turn it is was taken out and served: what this
--- has cost is charged to the round, it waits on if it has more to do, and it is counted in its
--- tenant's tally.
+-- The round wasn't over, and the connection whose turn it is, and no other, was taken out and
+-- served: what this has cost is charged to the round, it waits on if it has more to do, and it is
+-- counted in its tenant's tally.
 pub record ServesNext (until : Bool) (before after : Queued) : Type 0 where
   pub key : ℕ
   pub goes_on : ¬ (IsRoundOver before.waiting)
   pub taken : Waiting
   pub turn : TakesTurn key before.waiting taken
+  pub noted : IsNoted key None before.waiting taken
   pub served : HasServedNext until key before.standing after.standing after.waiting
   pub waits : HasLetWait until key before.standing after.standing taken after.waiting
   pub tallies : CountsForTenant key before.standing after.standing before.tallies after.tallies

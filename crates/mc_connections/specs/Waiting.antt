@@ -37,6 +37,13 @@ ComesToWait tenant key old new =
     IsPushed (flow_of (length old.queue.flows) tenant) key old.queue new.queue × WaitsInLine new key
     ⊎ (new.queue ≡ old.queue) × (WaitsInLine old key ⊎ length old.waits.items ≤ key)
 
+-- a connection came to wait, as one for which a short read is the last one or isn't; and nothing is
+-- noted of any other
+abbrev pub LetsWait : Option ℕ → ℕ → Bool → Waiting → Waiting → Type 0
+LetsWait tenant key short old new =
+    ComesToWait tenant key old new
+    × IsNoted key (Some (short_with (short_at old key) short)) old new
+
 -- What the connection before this one has cost was charged to the flow that had its turn, and the
 -- next flow in which one waits gave its first, which doesn't wait any more.
 pub record TakesTurn (key : ℕ) (old new : Waiting) : Type 0 where
@@ -51,7 +58,9 @@ abbrev pub IsRoundOver : Waiting → Type 0
 IsRoundOver waiting = (ROUND ≤ waiting.spent_in_round)
     × ¬ (TurnGoesOn waiting.spent (flow_at waiting.queue waiting.queue.turn))
 
--- the round is over; or nobody waits, once what the last one has cost is charged
+-- the round is over; or nobody waits, once what the last one has cost is charged, and what is noted
+-- of who waits is as it was
 abbrev pub EndsRound : Waiting → Waiting → Type 0
 EndsRound old new = IsRoundOver old × (new ≡ old)
     ⊎ Charges old.spent old.queue new.queue × IsIdle new.queue × (new.spent ≡ 0)
+    × (new.waits.items ≡ old.waits.items)

@@ -1,11 +1,11 @@
 //! Which of an event loop's connections are served next.
-ghost use Rattle.std.specs.Prelude.{◌≡◌, ◌+◌, ◌-◌, ◌*◌, ◌^◌, ◌≤◌, ◌↔◌, length, min, All, IfOk, IsTrue, OnOk};
+ghost use Rattle.std.specs.Prelude.{◌≡◌, ◌+◌, ◌-◌, ◌*◌, ◌^◌, ◌≤◌, ◌↔◌, length, min, All, IfOk, IsTrue, OnOk, Some};
 ghost use Rattle.fair_queue.specs.Turns.{IsIdle};
 ghost use Rattle.mc_connections.specs.InQueue.{HasLetWait, HasServedNext};
-ghost use Rattle.mc_connections.specs.Round.{HaveCome, MakesRound, queued_at};
+ghost use Rattle.mc_connections.specs.Round.{HaveCome, MakesRound, queued_at, short_of};
 ghost use Rattle.mc_connections.specs.Serving.{tenant_at};
 ghost use Rattle.mc_connections.specs.Tallying.{CountsForTenant, CountsNothing};
-ghost use Rattle.mc_connections.specs.Waiting.{ComesToWait};
+ghost use Rattle.mc_connections.specs.Waiting.{ComesToWait, IsNoted, short_at, short_with};
 ghost use Rattle.mc_connections.specs.Working.{IsNewFor, KeepsPlaces, Works, standing};
 ghost use Rattle.mc_connections.specs.declared.places.TheConstants.{MOST_CONNECTIONS};
 ghost use Rattle.mio.specs.Events.{items};
@@ -40,7 +40,9 @@ pub struct ReadyQueue {
 
 /// Returns whether a read that fills less than its buffer is the last one for an event. After the
 /// peer has closed it isn't, since no later event reports the end.
-fn stops_short(event: &Event) -> bool {
+fn stops_short(event: &Event) -> bool
+    ensures { result ≡ short_of event.now }
+{
     !event.is_read_closed() && !event.is_error()
 }
 
@@ -86,6 +88,9 @@ impl ReadyQueue {
     fn let_wait(&mut self, next: Next) -> Result<(), AllocError>
         ensures waits { OnOk result (ComesToWait (tenant_at self.old.connections next.key) next.key
             self.old.waiting self.new.waiting) }
+        ensures noted { IsNoted next.key
+            (Some (short_with (short_at self.old.waiting next.key) next.stops_short))
+            self.old.waiting self.new.waiting }
         ensures spent { self.new.waiting.spent ≡ self.old.waiting.spent }
         ensures round { self.new.waiting.spent_in_round ≡ self.old.waiting.spent_in_round }
         ensures same { self.new.connections ≡ self.old.connections }

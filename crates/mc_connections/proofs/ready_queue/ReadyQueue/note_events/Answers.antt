@@ -57,8 +57,8 @@ loop-event-preserved c = record {
       let key : c.token-token.result.0 < FIRST_TOKEN = omega (arith, c.in_default.ensures.none) in
       noted_more c.args.self.now.connections (items c.args.events.now) (iter_rest c.loop-event.event-iterator) (iter_rest c.next.new.self) c.in-Some.event.now c.args.self.now.waiting c.loop-event.self.waiting c.let_wait.new.self.waiting
       c.in-Some.ensures.steps c.loop-event.invariant.notes
-      (noted_one c.args.self.now.connections c.loop-event.self.connections c.in-Some.event.now c.token-token.result.0 c.loop-event.self.waiting c.let_wait.new.self.waiting c.loop-event.invariant.same
-      (ap (λ (token : Token). token.0) c.token-token.ensures) key c.in_ok-let_wait.ensures.waits c.let_wait.ensures.spent c.let_wait.ensures.round);
+      (noted_one c.args.self.now.connections c.loop-event.self.connections c.in-Some.event.now c.token-token.result.0 c.stops_short.result c.loop-event.self.waiting c.let_wait.new.self.waiting c.loop-event.invariant.same
+      (ap (λ (token : Token). token.0) c.token-token.ensures) c.stops_short.ensures key c.in_ok-let_wait.ensures.waits c.let_wait.ensures.noted c.let_wait.ensures.spent c.let_wait.ensures.round);
 }
 
 pub returns-clause-come : goal.returns-clause-come

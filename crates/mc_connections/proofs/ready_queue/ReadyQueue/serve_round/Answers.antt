@@ -33,6 +33,7 @@ loop-preserved g c = record {
         goes_on = c.in-Some.ensures.takes.0;
         taken = c.pop.new.self;
         turn = c.in-Some.ensures.takes.1;
+        noted = c.in-Some.ensures.noted.0;
         served = c.serve.ensures.served;
         waits = c.in_ok-serve.ensures.waits;
         tallies = c.serve.ensures.tallies;

@@ -9,4 +9,4 @@ returns-in-Some-clause-takes c = (
 )
 
 pub returns-in-None-clause-takes : goal.returns-in-None-clause-takes
-returns-in-None-clause-takes c = idled c.replace-spent.result _ _ c.replace-spent.ensures.value c.replace-spent.ensures.after c.in-None.ensures.given
+returns-in-None-clause-takes c = idled c.replace-spent.result _ _ c.replace-spent.ensures.value c.replace-spent.ensures.after (search rules) c.in-None.ensures.given
