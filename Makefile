@@ -47,7 +47,7 @@ test: kit ## the gate: every proof from nothing, the gate's mutants, the tests, 
 
 mutants: kit ## mutation testing with the full set; CRATES="mc_items mc_read" for some crates
 	@tests/mutants_selftest.sh
-	@tools/mutants.sh $(CRATES)
+	@tools/mutants.py $(CRATES)
 
 golden: ## runs the programs, as make test built them, on their golden tests; in the gate too
 	@tests/programs.sh

@@ -1,6 +1,6 @@
 #!/usr/bin/env bash
-# Tests tools/mutants.sh itself on a small repository: a mutant that breaks a function is refused, in either set, and one that changes
-# nothing is reported as not refused.
+# Tests tools/mutants.py itself on a small repository: a mutant that breaks a function is refused, in either set, and one that changes
+# nothing is reported as not refused, also where it is tried next to one that breaks a function which its own calls.
 set -euo pipefail
 tools=$(cd "$(dirname "$0")/../tools" && pwd)
 
@@ -11,7 +11,7 @@ cd "$folder"
 echo 'half:' >crates.txt
 echo 'Handles allowed: none.' >HANDLES
 cat >crates/half/src/lib.rt <<'END'
-//! A function that a mutant can break.
+//! Functions that a mutant can break.
 #![tactic(auto)]
 
 ghost use Rattle.std.specs.Prelude.{◌≡◌, ◌/◌};
@@ -22,19 +22,28 @@ pub fn half(number: u8) -> u8
 {
     number / 2
 }
+
+/// Half of a number's half.
+pub fn quarter(number: u8) -> u8
+    ensures { result ≡ (number / 2) / 2 }
+{
+    half(half(number))
+}
 END
-mutant() { printf 'file: src/lib.rt\nold:     number / 2\nnew:     %s\n' "$2" >"crates/half/$1.edit"; }
-mutant must-fail/half_of_a_third 'number / 3'
-mutant more-edits/half_of_a_fourth 'number / 4'
-mutant more-edits/half_unchanged 'number / 2'
+mutant() { printf 'file: src/lib.rt\nold:     %s\nnew:     %s\n' "$2" "$3" >"crates/half/$1.edit"; }
+mutant must-fail/half_is_a_third 'number / 2' 'number / 3'
+mutant more-edits/half_is_a_fourth 'number / 2' 'number / 4'
+mutant more-edits/half_unchanged 'number / 2' 'number / 2'
+mutant more-edits/quarter_unchanged 'half(half(number))' 'half(half(number))'
 
 status=0
-REPOSITORY=$folder "$tools/mutants.sh" half >log 2>&1 || status=$?
+REPOSITORY=$folder "$tools/mutants.py" half >log 2>&1 || status=$?
 wanted='NOT REFUSED: half/half_unchanged.edit
-2 passed, 1 failed'
-if [ "$status" -ne 1 ] || [ "$(tail -n 2 log)" != "$wanted" ]; then
+NOT REFUSED: half/quarter_unchanged.edit
+2 passed, 2 failed'
+if [ "$status" -ne 1 ] || [ "$(tail -n 3 log)" != "$wanted" ]; then
     cat log
-    echo "tools/mutants.sh ended with status $status, and its last lines aren't: $wanted" >&2
+    echo "tools/mutants.py ended with status $status, and its last lines aren't: $wanted" >&2
     exit 1
 fi
-echo 'tools/mutants.sh reports a mutant that changes nothing as not refused'
+echo 'tools/mutants.py reports mutants that change nothing as not refused'

@@ -11,25 +11,18 @@
 # Installs what is missing where it may, or says what that is. The last line is 'N passed, M failed'.
 set -euo pipefail
 cd "$(dirname "$0")/.."
+. tools/packages.sh
 
 server=${1:-crates/wfmc/out/wfmc}
-missing=
-command -v memcached >/dev/null || missing+=" memcached"
-command -v memccat >/dev/null || missing+=" libmemcached-tools"
-command -v nc >/dev/null || missing+=" netcat-openbsd"
-[ "${server##*/}" != mc_stdin ] || command -v socat >/dev/null || missing+=" socat"
+missing=()
+command -v memcached >/dev/null || missing+=(memcached)
+command -v memccat >/dev/null || missing+=(libmemcached-tools)
+command -v nc >/dev/null || missing+=(netcat-openbsd)
+[ "${server##*/}" != mc_stdin ] || command -v socat >/dev/null || missing+=(socat)
 for library in pymemcache pylibmc memcache; do
-    /usr/bin/python3 -c "import $library" 2>/dev/null || missing+=" python3-$library"
+    /usr/bin/python3 -c "import $library" 2>/dev/null || missing+=("python3-$library")
 done
-if [ -n "$missing" ]; then
-    # shellcheck disable=SC2086
-    if [ "$(id -u)" = 0 ]; then
-        apt-get update -qq && apt-get install -qq -y --no-install-recommends $missing >/dev/null
-    else
-        echo "Missing:$missing. Install with: apt-get install$missing" >&2
-        exit 1
-    fi
-fi
+require_packages "${missing[@]}"
 
 case $server in
     *:*) program=bash ;;

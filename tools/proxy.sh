@@ -4,19 +4,12 @@
 # Usage: tools/proxy.sh [WFMC]. Installs nutcracker and python3-pymemcache where it may. The last line is 'N passed, M failed'.
 set -euo pipefail
 cd "$(dirname "$0")/.."
+. tools/packages.sh
 
-missing=
-command -v nutcracker >/dev/null || missing+=" nutcracker"
-/usr/bin/python3 -c 'import pymemcache' 2>/dev/null || missing+=" python3-pymemcache"
-if [ -n "$missing" ]; then
-    # shellcheck disable=SC2086
-    if [ "$(id -u)" = 0 ]; then
-        apt-get update -qq && apt-get install -qq -y --no-install-recommends $missing >/dev/null
-    else
-        echo "Missing:$missing. Install with: apt-get install$missing" >&2
-        exit 1
-    fi
-fi
+missing=()
+command -v nutcracker >/dev/null || missing+=(nutcracker)
+/usr/bin/python3 -c 'import pymemcache' 2>/dev/null || missing+=(python3-pymemcache)
+require_packages "${missing[@]}"
 program=${1:-crates/wfmc/out/wfmc}
 [ -x "$program" ] || { echo "$program isn't built: make serve builds it" >&2; exit 1; }
 exec /usr/bin/python3 -B tools/compatibility/proxied.py "$program"

@@ -1,0 +1,302 @@
+#!/usr/bin/env python3
+"""Mutation testing of the contracts: the prover must refuse each mutant of both sets, the gate's (must-fail/) and the full one (more-edits/).
+
+Usage: tools/mutants.py [CRATE..], all crates that have mutants where none is named. It begins with the libraries that make test or
+make build has built, and proves those that have changed since.
+
+A proof knows of other functions their contracts alone, so mutants that change the bodies of different functions are tried at once: each is
+refused if a goal of its own function is. What changes anything else, and what isn't refused so, is tried alone, by a check of the
+whole crate. The last lines name the mutants that weren't refused, and then 'N passed, M failed'.
+"""
+
+import functools
+import os
+import re
+import shutil
+import subprocess
+import sys
+import tempfile
+from collections import Counter
+from concurrent.futures import ThreadPoolExecutor
+from dataclasses import dataclass, field
+from pathlib import Path
+
+TOOLS = Path(__file__).resolve().parent
+ROOT = Path(os.environ.get("REPOSITORY", TOOLS.parent)).resolve()
+CRATES = ROOT / "crates"
+SETS = ("must-fail", "more-edits")
+PARTS = ("src", "specs", "proofs")
+# How many mutants are tried at once: with more, a crate's checks would be fewer, and one wrong edit would cost more of them a second try.
+AT_ONCE = 12
+
+LISTED = re.compile(r"^(\w+)[^#\n:]*:(.*)$", re.MULTILINE)
+FUNCTION = re.compile(r"^( *)(?:pub(?:\([\w:]+\))? )?(?:const )?fn (\w+)")
+IMPL = re.compile(r"^( *)impl(?:<.*?>)? (?:(\w[\w:]*)(?:<.*>)? for )?(&(?:'\w+ )?(?:mut )?)?(\w[\w:]*)")
+TRAIT = re.compile(r"^( *)(?:pub(?:\([\w:]+\))? )?trait (\w+)")
+TYPE = re.compile(r"^(?:pub(?:\([\w:]+\))? )?(?:struct|enum|trait) (\w+)", re.MULTILINE)
+# The prover's words for a goal that it refuses, a proof that doesn't fit any more, and a proof that only lacks what the mutant took away.
+OPEN_GOAL = re.compile(r"note: (src/\S+?):(\d+):\d+: it is not proved that")
+WRONG_PROOF = re.compile(r"(?:\./)?proofs/(\S+)/(?:Answers|Proof|Invariants)\.antt:\d+:\d+: error")
+LACKING = re.compile(r"has no `|has no field|is not in scope|was not admitted")
+UNREAD = re.compile(r"(?:\./)?(?:src|specs)/\S+?:\d+:\d+: error|error\[[\w-]+\]")
+
+
+@dataclass(frozen=True)
+class Function:
+    """A function of a file: its name as a check prints it, below the crate, and its first line, the body's and the last."""
+
+    name: str
+    file: str
+    first: int
+    body: int
+    last: int
+
+    @property
+    def proofs(self):
+        return self.name.replace("::", "/")
+
+
+def module_of(file):
+    return re.sub(r"/mod$|^lib$|^main$", "", file.removeprefix("src/").removesuffix(".rt")).replace("/", "::")
+
+
+def owner_of(line):
+    """The type, and the trait after it, to which the functions of a block that begins in this line belong, as a check names them."""
+    if begins := IMPL.match(line):
+        kind = "RefMut" if "mut" in (begins[3] or "") else "Ref" if begins[3] else begins[4].split("::")[-1]
+        return kind, kind + (begins[2] or "").split("::")[-1]
+    begins = TRAIT.match(line)
+    return begins and (begins[2], begins[2])
+
+
+def functions(file, text, modules):
+    """The functions of a formatted file whose bodies stand in lines of their own. A check names a type's own methods by its module."""
+    lines, owner, found = text.split("\n"), None, []
+    for number, line in enumerate(lines):
+        begins = FUNCTION.match(line)
+        if line.startswith("}"):
+            owner = None
+        owner = owner_of(line) or owner
+        if not begins:
+            continue
+        rest = range(number, len(lines))
+        last = next((at for at in rest if lines[at] == begins[1] + "}"), None)
+        body = next((at for at in rest if lines[at] == begins[1] + "{" or re.match(rf"{begins[1]}\S.*\{{$", lines[at])), None)
+        if last and body is not None and body < last:
+            kind, named = owner or (None, None)
+            module = modules.get(kind, module_of(file)) if kind == named else module_of(file)
+            found.append(Function("::".join(it for it in (module, named, begins[2]) if it), file, number + 1, body + 1, last + 1))
+    return found
+
+
+@dataclass
+class Mutant:
+    """A mutant: where it stands, and the texts that it changes, each as its file, the old one and the new one."""
+
+    crate: str
+    path: Path
+    changes: list = field(default_factory=list)
+
+    @property
+    def name(self):
+        return f"{self.crate}/{self.path.name}"
+
+    def read(self):
+        """Reads the edit; says what is wrong with it, if anything is."""
+        file, old = "", None
+        for line in self.path.read_text(encoding="utf-8").split("\n"):
+            if line.startswith("file: "):
+                file = line.removeprefix("file: ").strip()
+            elif line.startswith("old: "):
+                old = line.removeprefix("old: ")
+            elif line.startswith("new:"):
+                source = CRATES / self.crate / file
+                if not old or not source.is_file() or source.read_text(encoding="utf-8").count(old) != 1:
+                    return f"its old text isn't in {file or 'a file'} once"
+                self.changes.append((file, old, line.removeprefix("new:").removeprefix(" ")))
+        return None if self.changes else "it changes nothing"
+
+    def function(self, known):
+        """The one function whose body alone the mutant changes, or none."""
+        found = set()
+        for file, old, _ in self.changes:
+            text = (CRATES / self.crate / file).read_text(encoding="utf-8")
+            line = text[: text.index(old)].count("\n") + 1
+            within = [it for it in known.get(file, ()) if it.body < line < it.last or it.body == line == it.last]
+            found.add(max(within, key=lambda it: it.first) if within else None)
+        return found.pop() if len(found) == 1 else None
+
+
+class Crate:
+    """A crate with mutants, which are tried on copies of its files."""
+
+    def __init__(self, name, libraries, folder):
+        self.name = name
+        self.libraries = libraries
+        self.folder = folder / name
+        self.own = CRATES / name
+        self.refused, self.kept = set(), []
+        self.mutants = [Mutant(name, path) for part in SETS for path in sorted((self.own / part).glob("*.edit"))]
+        sources = sorted((self.own / "src").rglob("*.rt"))
+        inside = {file.relative_to(self.own).as_posix(): file.read_text(encoding="utf-8") for file in sources}
+        modules = {kind: module_of(file) for file, text in inside.items() for kind in TYPE.findall(text)}
+        self.functions = {file: functions(file, text, modules) for file, text in inside.items()}
+
+    def words(self):
+        """The words of a check of the crate over the libraries as built."""
+        of_kit = f"{kit()}/rlibs"
+        root = "src/main.rt" if (self.own / "src/main.rt").exists() else "src/lib.rt"
+        words = [f"{kit()}/bin/rattle", "check", "--crate-name", self.name, root, "--extern", f"std={of_kit}/std.rlib"]
+        for library in self.libraries[self.name]:
+            words += ["--extern", f"{library}={built(library) if library in self.libraries else f'{of_kit}/{library}.rlib'}"]
+        words += ["-L", f"dependency={of_kit}"]
+        for library in sorted(below(self.name, self.libraries)):
+            words += ["-L", f"dependency={built(library).parent}"]
+        project = f"{kit()}/rattle/logic/antt-project.json"
+        return [*words, "--antt-project", project, "--logic-built", f"{kit()}/logic_built", "--jobs", "1"]
+
+    def check(self, mutants, kept, *more):
+        """Checks a copy of the crate with these mutants, over what is kept in a folder; returns the status and what was said."""
+        with tempfile.TemporaryDirectory(dir=self.folder) as room:
+            for part in PARTS:
+                if (self.own / part).is_dir():
+                    shutil.copytree(self.own / part, f"{room}/{part}")
+            for file, old, new in (change for mutant in mutants for change in mutant.changes):
+                source = Path(room, file)
+                source.write_text(source.read_text(encoding="utf-8").replace(old, new), encoding="utf-8")
+            words = [*self.words(), "--incremental", str(kept), *more]
+            ran = subprocess.run(words, cwd=room, stdin=subprocess.DEVNULL, stdout=subprocess.PIPE, stderr=subprocess.STDOUT, text=True, errors="replace")
+            return ran.returncode, ran.stdout.rstrip("\n").split("\n")
+
+    def try_bodies(self, mutants):
+        """Tries mutants of the bodies of different functions at once; returns those that weren't refused."""
+        asked = [word for mutant in mutants for word in ("--only", mutant.function(self.functions).name)]
+        _, said = self.check(mutants, self.folder / "bodies", *asked)
+        left = []
+        for mutant in mutants:
+            why = refusal(mutant.function(self.functions), said)
+            if why:
+                self.refuse(mutant, why)
+            else:
+                left.append(mutant)
+        if left and len(mutants) > 1:
+            return [it for mutant in left for it in self.try_bodies([mutant])]
+        return left
+
+    def try_whole(self, mutant):
+        """Tries a mutant by a check of the whole crate."""
+        seed, own = self.folder / "whole", self.folder / "mutant"
+        if not seed.exists():
+            status, said = self.check([], seed)
+            if status:
+                raise SystemExit(f"{self.name} itself isn't proved: {said[-1]}")
+        shutil.copytree(seed, own, copy_function=linked)
+        status, said = self.check([mutant], own)
+        shutil.rmtree(own)
+        unread = next((line for line in said if UNREAD.search(line)), None)
+        if status == 1 and said[-1].startswith("logic=not-proved") and not unread:
+            why = next((line for line in said if OPEN_GOAL.match(line) or ": error" in line), said[-1])
+            self.refuse(mutant, why)
+        else:
+            self.keep(mutant, "the crate is still proved" if not status else f"it can't be read: {unread}" if unread else f"no verdict: {said[-1]}")
+
+    def refuse(self, mutant, why):
+        self.refused.add(mutant.name)
+        print(f"{mutant.name}: refused: {why[:160]}", flush=True)
+
+    def keep(self, mutant, why):
+        self.kept.append(mutant.name)
+        print(f"{mutant.name}: NOT REFUSED: {why[:300]}", flush=True)
+
+    def try_all(self):
+        self.folder.mkdir()
+        batches, alone = [], []
+        for mutant in self.mutants:
+            if wrong := mutant.read():
+                self.keep(mutant, wrong)
+            elif function := mutant.function(self.functions):
+                batch = next((it for it in batches if function not in it and len(it) < AT_ONCE), None)
+                if batch is None:
+                    batches.append(batch := {})
+                batch[function] = mutant
+            else:
+                alone.append(mutant)
+        for batch in batches:
+            alone += self.try_bodies(list(batch.values()))
+        shutil.rmtree(self.folder / "bodies", ignore_errors=True)
+        for mutant in alone:
+            self.try_whole(mutant)
+        shutil.rmtree(self.folder)
+
+
+def linked(one, other):
+    """A second name for a proof that is kept, which a check replaces and never writes into; any other file is copied."""
+    return os.link(one, other) if one.endswith(".oantt") else shutil.copy2(one, other)
+
+
+def refusal(function, said):
+    """The line that refuses a goal of the function's own, and the function isn't proved then; or nothing."""
+    ended = re.compile(rf"fn \w+::{re.escape(function.name)}: (not proved|no proof|could not tell)")
+    if not any(ended.match(line) for line in said):
+        return None
+    for line in said:
+        goal, proof = OPEN_GOAL.match(line), WRONG_PROOF.match(line)
+        if goal and goal[1] == function.file and function.first <= int(goal[2]) <= function.last:
+            return line
+        if proof and proof[1] == function.proofs and not LACKING.search(line):
+            return line
+    return None
+
+
+@functools.cache
+def kit():
+    """The folder of Rattle's kit."""
+    page = subprocess.run(["rt", "doc"], check=True, capture_output=True, text=True).stdout.strip()
+    return Path(page).parent
+
+
+def below(crate, libraries):
+    """The libraries of this repository below a crate."""
+    own = {it for it in libraries[crate] if it in libraries}
+    return own.union(*(below(it, libraries) for it in own))
+
+
+def built(library):
+    return CRATES / library / "out/rlib" / f"{library}.rlib"
+
+
+def is_stale(library, libraries):
+    """Whether a library isn't built, or one of its files or of its libraries is newer."""
+    made = built(library) / "format"
+    if not made.exists():
+        return True
+    files = [file for part in PARTS for file in (CRATES / library / part).rglob("*")]
+    files += [built(it) / "format" for it in below(library, libraries)]
+    return any(not file.exists() or file.stat().st_mtime > made.stat().st_mtime for file in files)
+
+
+def main():
+    libraries = {crate: named.split() for crate, named in LISTED.findall((ROOT / "crates.txt").read_text(encoding="utf-8"))}
+    having = {path.relative_to(CRATES).parts[0] for part in SETS for path in CRATES.glob(f"*/{part}/*.edit")}
+    names = sys.argv[1:] or sorted(having)
+    if unknown := [name for name in names if name not in having]:
+        print(f"{unknown[0]} is no crate that has mutants", file=sys.stderr)
+        return 2
+    if stale := sorted({it for name in names for it in below(name, libraries) if is_stale(it, libraries)}):
+        subprocess.run([TOOLS / "prove.sh", *stale], check=True, env=os.environ | {"REPOSITORY": str(ROOT)})
+    with tempfile.TemporaryDirectory() as folder:
+        # Those with the most mutants begin first.
+        crates = sorted((Crate(name, libraries, Path(folder)) for name in names), key=lambda it: -len(it.mutants))
+        with ThreadPoolExecutor(len(os.sched_getaffinity(0))) as pool:
+            list(pool.map(Crate.try_all, crates))
+    failed = [name for crate in crates for name in crate.kept]
+    tried = Counter(mutant.name for crate in crates for mutant in crate.mutants)
+    failed += [f"{name} (in both sets)" for name, times in tried.items() if times > 1]
+    for name in sorted(failed):
+        print(f"NOT REFUSED: {name}")
+    print(f"{sum(len(crate.refused) for crate in crates)} passed, {len(failed)} failed")
+    return 1 if failed else 0
+
+
+if __name__ == "__main__":
+    sys.exit(main())
