@@ -3,12 +3,14 @@
 each case says; with 1 and 2 workers, and next to memcached, where both are clients of one instance with as many threads.
 
 Prints a line `SERVER: CASE: WHAT<TAB>VALUE<TAB>UNIT` for each measurement: the median, the 99th and the 99.9th percentile and the longest of
-the quiet tenant's times to a reply, how many requests or rounds the noisy one did in a second, and the server's resident memory. `nobody` is the quiet tenant alone. A flush isn't
-measured at memcached, where it takes the quiet client's item too.
+the quiet tenant's times to a reply, how many requests or rounds the noisy one did in a second, and the server's resident memory. `nobody` is
+the quiet tenant alone, which is measured in any case. A flush isn't measured at memcached, where it takes the quiet client's item too.
 
-Usage: bench/neighbours.py [BINARY [CASE...]] [--seconds N] [--workers W] [--no-memcached] [--option WORD]; the binary is
-crates/wfmc/out/wfmc and all cases are measured where none is named, for N (5) seconds each. The logs follow one another, each of 1,048,576
-places or 256 MiB. Of three or more processors the quiet client has one, the noisy ones have one, and the server has the others. Takes some
+Usage: bench/neighbours.py [BINARY [CASE...]] [--seconds N] [--runs N] [--calm MICROSECONDS] [--workers W] [--no-memcached] [--option WORD]; the
+binary is crates/wfmc/out/wfmc and all cases are measured where none is named, for N (5) seconds each. With several runs, by turns, the last lines
+are of each case the median, the least and the greatest of its 99th percentiles in the calm runs alone, those in which nobody's was at most as
+many microseconds (40): where the machine itself keeps a client waiting, the server's part can't be told. The logs follow one another,
+each of 1,048,576 places or 256 MiB. Of three or more processors the quiet client has one, the noisy ones have one, and the server has the others. Takes some
 minutes and up to 4 GB of memory; needs gcc, and memcached unless told otherwise.
 """
 
@@ -26,7 +28,7 @@ sys.path.insert(0, str(pathlib.Path(__file__).parents[1] / "tests"))
 from harness import repository
 from harness.bounds import MEBIBYTE, held, number
 from harness.client import Client
-from harness.measures import figures_of, print_figure, print_load
+from harness.measures import figures_of, print_figure, print_load, print_spread
 from harness.servers import LARGE, Memcached, Server
 from wfmc import build_load
 
@@ -125,9 +127,10 @@ def closes(client):
     return False
 
 
+NOBODY = "nobody"
 FLUSHES = f"{FLUSHED:,} items are set and flushed"
 CASES = {
-    "nobody": None,
+    NOBODY: None,
     "8 connections of depth 16": Loaded("8", "16"),
     "400 connections of depth 16": Loaded("400", "16"),
     "8 connections with items of 1 MB, half of them sets": Loaded("-d", "1000000", "-g", "50", "-k", "20", "8", "1"),
@@ -180,11 +183,42 @@ def measure(load, seconds, started, noise):
     return [*((name, value, unit) for name, value, unit in figures_of(printed) if "times to a reply" in name), *done, memory]
 
 
+def servers_of(words, program):
+    """By name, a function for each server that starts it."""
+    for workers in words.workers or (1, 2):
+        yield f"wfmc, {workers} workers", lambda workers=workers: wfmc(program, workers, words.option)
+        if not words.no_memcached:
+            yield f"memcached, {workers} threads", lambda workers=workers: memcached(workers)
+
+
+def run(load, words, name, start):
+    """Prints what one run measured at a server; returns its 99th percentiles by case."""
+    found = {}
+    for case in words.cases:
+        if case == FLUSHES and name.startswith("memcached"):
+            continue
+        for what, value, unit in measure(load, words.seconds, start(), CASES[case]):
+            print_figure(f"{name}: {case}: {what}", value, unit)
+            if what.startswith("99th percentile"):
+                found[case] = value
+    return found
+
+
+def print_calm(name, runs, most):
+    """Prints the 99th percentiles in the runs in which nobody's was at most this many microseconds."""
+    calm = [found for found in runs if found[NOBODY] <= most]
+    print_figure(f"{name}: calm runs, of {len(runs)}", len(calm), "count")
+    for case in calm[0] if calm else ():
+        print_spread(f"{name}: {case}: 99th percentile in calm runs", [found[case] for found in calm], "us")
+
+
 def main():
     parser = argparse.ArgumentParser(description=__doc__, formatter_class=argparse.RawDescriptionHelpFormatter)
     parser.add_argument("program", nargs="?", default=None)
     parser.add_argument("cases", nargs="*")
     parser.add_argument("--seconds", type=int, default=5)
+    parser.add_argument("--runs", type=int, default=1)
+    parser.add_argument("--calm", type=float, default=40)
     parser.add_argument("--workers", type=int, action="append")
     parser.add_argument("--no-memcached", action="store_true")
     parser.add_argument("--option", action="append", default=[], help="a word more for wfmc")
@@ -192,20 +226,20 @@ def main():
     program = words.program or repository.program("wfmc")
     repository.enter(program)
     repository.require("gcc", *([] if words.no_memcached else ["memcached"]))
-    wanted = words.cases or list(CASES)
+    if unknown := [case for case in words.cases if case not in CASES]:
+        parser.error(f"{unknown[0]} is no case; the cases are: {', '.join(CASES)}")
+    words.cases = [NOBODY, *(case for case in words.cases or CASES if case != NOBODY)]
     print_load("start")
     with tempfile.TemporaryDirectory() as folder:
         load = build_load(folder)
-        for workers in words.workers or (1, 2):
-            servers = {f"wfmc, {workers} workers": lambda workers=workers: wfmc(program, workers, words.option)}
-            if not words.no_memcached:
-                servers[f"memcached, {workers} threads"] = lambda workers=workers: memcached(workers)
-            for case in wanted:
-                for name, start in servers.items():
-                    if case == FLUSHES and name.startswith("memcached"):
-                        continue
-                    for what, value, unit in measure(load, words.seconds, start(), CASES[case]):
-                        print_figure(f"{name}: {case}: {what}", value, unit)
+        servers = dict(servers_of(words, program))
+        runs = {name: [] for name in servers}
+        for _ in range(words.runs):
+            for name, start in servers.items():
+                runs[name].append(run(load, words, name, start))
+    if words.runs > 1:
+        for name, found in runs.items():
+            print_calm(name, found, words.calm)
     print_load("end")
 
 
