@@ -1,8 +1,8 @@
 #!/usr/bin/env python3
 """Mutation testing of the contracts: the prover must refuse each mutant of both sets, the gate's (must-fail/) and the full one (more-edits/).
 
-Usage: tools/mutants.py [CRATE..], all crates that have mutants where none is named. It begins with the libraries that make test or
-make build has built, and proves those that have changed since.
+Usage: tools/mutants.py [CRATE | CRATE/MUTANT]..., where a crate's name stands for all of its mutants, and no word for all crates. It
+begins with the libraries that make test or make build has built, and proves those that have changed since.
 
 A proof knows of other functions their contracts alone, so mutants that change the bodies of different functions are tried at once: each is
 refused if a goal of its own function is. What changes anything else, and what isn't refused so, is tried alone, by a check of the
@@ -130,13 +130,14 @@ class Mutant:
 class Crate:
     """A crate with mutants, which are tried on copies of its files."""
 
-    def __init__(self, name, libraries, folder):
+    def __init__(self, name, wanted, libraries, folder):
         self.name = name
         self.libraries = libraries
         self.folder = folder / name
         self.own = CRATES / name
         self.refused, self.kept = set(), []
-        self.mutants = [Mutant(name, path) for part in SETS for path in sorted((self.own / part).glob("*.edit"))]
+        paths = [path for part in SETS for path in sorted((self.own / part).glob("*.edit"))]
+        self.mutants = [Mutant(name, path) for path in paths if path.stem in wanted]
         sources = sorted((self.own / "src").rglob("*.rt"))
         inside = {file.relative_to(self.own).as_posix(): file.read_text(encoding="utf-8") for file in sources}
         modules = {kind: module_of(file) for file, text in inside.items() for kind in TYPE.findall(text)}
@@ -169,9 +170,12 @@ class Crate:
             return ran.returncode, ran.stdout.rstrip("\n").split("\n")
 
     def try_bodies(self, mutants):
-        """Tries mutants of the bodies of different functions at once; returns those that weren't refused."""
+        """Tries mutants of the bodies of different functions at once; returns those that weren't refused, or whose function has another name."""
         asked = [word for mutant in mutants for word in ("--only", mutant.function(self.functions).name)]
-        _, said = self.check(mutants, self.folder / "bodies", *asked)
+        status, said = self.check(mutants, self.folder / "bodies", *asked)
+        if status == 2 and (unknown := [it for it in mutants if f"`{it.function(self.functions).name}`" in said[-1]]):
+            known = [it for it in mutants if it not in unknown]
+            return unknown + (self.try_bodies(known) if known else [])
         left = []
         for mutant in mutants:
             why = refusal(mutant.function(self.functions), said)
@@ -266,27 +270,42 @@ def built(library):
 
 
 def is_stale(library, libraries):
-    """Whether a library isn't built, or one of its files or of its libraries is newer."""
-    made = built(library) / "format"
-    if not made.exists():
+    """Whether a library isn't built, or a file of its own or of those below it is newer than its folder. (What the gate has kept is linked there.)"""
+    if not built(library).is_dir():
         return True
-    files = [file for part in PARTS for file in (CRATES / library / part).rglob("*")]
-    files += [built(it) / "format" for it in below(library, libraries)]
-    return any(not file.exists() or file.stat().st_mtime > made.stat().st_mtime for file in files)
+    made = built(library).stat().st_mtime
+    sources = (CRATES / it / part for it in (library, *below(library, libraries)) for part in PARTS)
+    return any(file.stat().st_mtime > made for folder in sources for file in folder.rglob("*"))
+
+
+def wanted_of(words):
+    """The crates whose mutants are wanted, each with these mutants' names; or nothing, once it has said which word is wrong."""
+    having = {}
+    for path in sorted(path for part in SETS for path in CRATES.glob(f"*/{part}/*.edit")):
+        having.setdefault(path.relative_to(CRATES).parts[0], set()).add(path.stem)
+    wanted = {}
+    for word in words or having:
+        crate, _, mutant = word.removesuffix(".edit").partition("/")
+        if crate not in having or mutant and mutant not in having[crate]:
+            print(f"{word} is no mutant, and no crate that has any", file=sys.stderr)
+            return None
+        if mutant:
+            wanted.setdefault(crate, set()).add(mutant)
+        else:
+            wanted[crate] = set(having[crate])
+    return wanted
 
 
 def main():
     libraries = {crate: named.split() for crate, named in LISTED.findall((ROOT / "crates.txt").read_text(encoding="utf-8"))}
-    having = {path.relative_to(CRATES).parts[0] for part in SETS for path in CRATES.glob(f"*/{part}/*.edit")}
-    names = sys.argv[1:] or sorted(having)
-    if unknown := [name for name in names if name not in having]:
-        print(f"{unknown[0]} is no crate that has mutants", file=sys.stderr)
+    wanted = wanted_of(sys.argv[1:])
+    if wanted is None:
         return 2
-    if stale := sorted({it for name in names for it in below(name, libraries) if is_stale(it, libraries)}):
+    if stale := sorted({it for name in wanted for it in below(name, libraries) if is_stale(it, libraries)}):
         subprocess.run([TOOLS / "prove.sh", *stale], check=True, env=os.environ | {"REPOSITORY": str(ROOT)})
     with tempfile.TemporaryDirectory() as folder:
         # Those with the most mutants begin first.
-        crates = sorted((Crate(name, libraries, Path(folder)) for name in names), key=lambda it: -len(it.mutants))
+        crates = sorted((Crate(name, some, libraries, Path(folder)) for name, some in wanted.items()), key=lambda it: -len(it.mutants))
         with ThreadPoolExecutor(len(os.sched_getaffinity(0))) as pool:
             list(pool.map(Crate.try_all, crates))
     failed = [name for crate in crates for name in crate.kept]
