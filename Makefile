@@ -45,7 +45,7 @@ package: kit ## proves and builds, and makes a Debian package, a tar file and th
 test: kit ## the gate: every proof from nothing, the gate's mutants, the tests, and the programs on their golden tests, over sockets and fuzzed
 	@tests/gate.sh
 
-mutants: kit ## mutation testing with the full set; CRATES="mc_items mc_read/pull_loses_bytes" for some crates or mutants
+mutants: kit ## mutation testing with the full set; CRATES="mc_items fair_queue/push_puts_first" for some crates or mutants
 	@tests/mutants_selftest.sh
 	@tools/mutants.py $(CRATES)
 
