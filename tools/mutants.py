@@ -162,9 +162,13 @@ class Crate:
             for part in PARTS:
                 if (self.own / part).is_dir():
                     shutil.copytree(self.own / part, f"{room}/{part}")
-            for file, old, new in (change for mutant in mutants for change in mutant.changes):
-                source = Path(room, file)
-                source.write_text(source.read_text(encoding="utf-8").replace(old, new), encoding="utf-8")
+            changes = [change for mutant in mutants for change in mutant.changes]
+            for file in {file for file, _, _ in changes}:
+                text = (self.own / file).read_text(encoding="utf-8")
+                # From the end of the file on, so that each old text is still the first of its kind.
+                for _, old, new in sorted((it for it in changes if it[0] == file), key=lambda it: -text.index(it[1])):
+                    text = text.replace(old, new, 1)
+                Path(room, file).write_text(text, encoding="utf-8")
             words = [*self.words(), "--incremental", str(kept), *more]
             ran = subprocess.run(words, cwd=room, stdin=subprocess.DEVNULL, stdout=subprocess.PIPE, stderr=subprocess.STDOUT, text=True, errors="replace")
             return ran.returncode, ran.stdout.rstrip("\n").split("\n")
