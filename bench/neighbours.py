@@ -10,8 +10,8 @@ Usage: bench/neighbours.py [BINARY [CASE...]] [--seconds N] [--runs N] [--calm M
 binary is crates/wfmc/out/wfmc and all cases are measured where none is named, for N (5) seconds each. With several runs, by turns, the last lines
 are of each case the median, the least and the greatest of its 99th percentiles in the calm runs alone, those in which nobody's was at most as
 many microseconds (40): where the machine itself keeps a client waiting, the server's part can't be told. The logs follow one another,
-each of 1,048,576 places or 256 MiB. Of three or more processors the quiet client has one, the noisy ones have one, and the server has the others. Takes some
-minutes and up to 4 GB of memory; needs gcc, and memcached unless told otherwise.
+each of 1,048,576 places or 256 MiB. Of three or more processors the quiet client has one, the noisy ones have one, and the server has the
+others. Takes some minutes and up to 4 GB of memory; needs gcc, and memcached unless told otherwise.
 """
 
 import argparse

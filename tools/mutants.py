@@ -244,7 +244,7 @@ def linked(one, other):
 
 def refusal(function, said):
     """The line that refuses a goal of the function's own, and the function isn't proved then; or nothing."""
-    ended = re.compile(rf"fn \w+::{re.escape(function.name)}: (not proved|no proof|could not tell)")
+    ended = re.compile(rf"fn \w+::{re.escape(function.name)}: (not proved|no proof)")
     if not any(ended.match(line) for line in said):
         return None
     for line in said:
