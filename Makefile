@@ -1,6 +1,6 @@
 # `make run` and `make test` do all set-up on a machine that has the kit (`rt` on the PATH).
 .PHONY: help run try serve stdin schedule build install uninstall package test mutants golden network metrics compatibility proxy moving fuzz \
-	coverage-fuzz linearizability allocation-failures differential wrong-definitions core-states outliving manual trying packaging bench picture documents exposition layers definitions kit
+	soak coverage-fuzz linearizability allocation-failures differential wrong-definitions core-states outliving manual trying packaging bench picture documents exposition layers definitions kit
 
 help: ## prints this list
 	@awk -F ':.*## ' '/^[a-z-]+:.*## / { printf "make %-20s %s\n", $$1, $$2 }' Makefile
@@ -80,6 +80,10 @@ fuzz: linearizability ## fuzzes wfmc over sockets for three times MINUTES (2), o
 	@python3 tests/fuzz.py $$(($(MINUTES) * 60))
 	@python3 tests/fuzz.py $$(($(MINUTES) * 60)) --generations --within
 	@python3 tests/fuzz.py $$(($(MINUTES) * 60)) --generations --within --log-bytes $(LOG_BYTES)
+
+soak: kit ## the fuzzer, the histories of clients and noisy neighbours side by side, for MINUTES (2) with each of 1, 2 and 4 workers, in the memory that OPERATING says
+	@tools/prove.sh wfmc >&2
+	@tests/soak.sh $(MINUTES)
 
 coverage-fuzz: kit ## fuzzes the reader for MINUTES (2), guided by the code that it reaches, after proving and building it with counters
 	@python3 tests/coverage_fuzz.py --minutes $(MINUTES)
