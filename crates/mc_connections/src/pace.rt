@@ -12,14 +12,15 @@ pub(crate) struct Share {
     pub written: usize,
 }
 
-/// What a serve takes where only one tenant has connections: enough for a reply with data of 64
-/// KiB.
+/// What a serve takes where only one tenant has connections: enough for a reply with the largest
+/// item, of 1 MiB and a line.
 pub(crate) const ALONE: Share = Share {
     requests: 32,
-    written: 69_632,
+    written: 1_052_672,
 };
 
-/// What it takes where others have some too, who wait meanwhile: half as much.
+/// What it takes where others have some too, who wait meanwhile: half as many requests, and of a
+/// long reply a part.
 pub(crate) const SHARED: Share = Share {
     requests: 16,
     written: 34_816,
