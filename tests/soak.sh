@@ -1,7 +1,7 @@
 #!/usr/bin/env bash
 # The fuzzer, the histories of clients and noisy neighbours side by side, against wfmc as built, with each of 1, 2 and 4 workers: over logs that
 # follow one another, each server with no more memory than docs/OPERATING.md says, and killed once its round is over. Each of the three goes on
-# for MINUTES (20) with each number of workers, so an hour in all, for as long as nothing fails.
+# for MINUTES (20) with each number of workers, so an hour in all; the neighbours end at what fails first.
 # Prints the last lines of each; the last line is 'N passed, M failed', of the three together. What they print in full stays in out/soak/.
 #
 # Usage: tests/soak.sh [MINUTES]
