@@ -211,7 +211,8 @@ impl Conn {
         tally: &mut Tally,
     ) -> Result<State, Fault>
         requires role { FitsLog self.old.role worker.old }
-        // As for `turn`; and no request was logged once the worker's log was closing.
+        // As for `turn`; and unless a fault ended it, no request was logged once the worker's log
+        // was closing.
         ensures outcome { self.old.is_closed ≡ false → MatchResult result
             (TurnsUntil (scene self.old worker.old (both (I.tells input.old) (O.tells output.old)))
             (scene self.new worker.new (both (I.tells input.new) (O.tells output.new))))

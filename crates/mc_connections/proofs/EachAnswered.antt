@@ -1,15 +1,15 @@
 -- Each request that is to be logged was answered, over one log or over several, unless the log is
 -- full.
-use Rattle.std.proofs.Common.{◌≡◌, ◌⊎◌, ℕ, zero, suc, ◌+◌, true, List, [], ◌∷◌, ◌++◌, length, length-append, slice_get, Some, arith, refl, sym, ap, subst, ◌∙◌, inl, inr, ⊎_elim, append-nil, append_assoc}
+use Rattle.std.proofs.Common.{◌≡◌, ◌⊎◌, ℕ, zero, suc, ◌+◌, true, List, [], ◌∷◌, ◌++◌, length, slice_get, Some, arith, refl, sym, ap, subst, ◌∙◌, inl, inr, ⊎_elim, append-nil, append_assoc}
 use Rattle.std.proofs.lemmas.Option.{none-some, same_Some, slice_get_within}
 use Rattle.lists.proofs.Public.{begins_through}
 use Rattle.lists.specs.Lists.{BeginsWith}
 use Rattle.mc_conn.specs.declared.conn.Role.{Role}
 use Rattle.mc_conn.specs.Owed.{Demand, Logs, Mark, Owes, OwesFor, Says, answered, demand_of, is_logged}
 use Rattle.mc_model.specs.declared.request.Request.{Request}
-use Rattle.mc_connections.specs.Life.{OwesInLogs, OwesInParts, and_then, next_log, no_log, none_yet}
+use Rattle.mc_connections.specs.Life.{IsBehind, OwesInLogs, OwesInParts, and_then, next_log, no_log, none_yet}
 use Rattle.mc_connections.specs.Seen.{AreAnsweredFrom, IsAnsweredAmong, IsAnsweredOnLast, SplitsAtLast}
-use Rattle.mc_connections.proofs.Lives.{logs_then, owes_alone}
+use Rattle.mc_connections.proofs.Lives.{owes_alone}
 use Rattle.uc_worker.specs.Worker.{IsFull}
 use Rattle.uc_worker.specs.declared.worker.Worker.{Worker}
 
@@ -130,33 +130,46 @@ module _ (past : List Worker) (worker : Worker) (role : Role) (earlier : List Re
 
   behind_more : (requests more : List Request) (bytes others : List ℕ) (index : ℕ) → AnsweredHere requests bytes index → AnsweredHere (requests ++ more) (bytes ++ others) index
   behind_more requests more bytes others index found = record {
+    first = found.first;
+    front = found.front;
+    over = found.over;
     earlier = found.earlier;
     before = found.before;
-    owes = found.owes;
+    to = found.to;
+    parts = found.parts;
     mark = found.mark;
+    behind = found.behind;
     part = found.part;
     bytes = found.bytes;
     at = found.at;
     answer = found.answer;
     so_many = found.so_many;
-    taken = begins_through (earlier ++ (requests ++ more)) (earlier ++ requests) (found.earlier ++ found.part) (more, sym (append_assoc earlier requests more)) found.taken;
-    next = begins_through (before ++ (bytes ++ others)) (before ++ bytes) (found.before ++ found.bytes) (others, sym (append_assoc before bytes others)) found.next;
+    taken =
+        begins_through (earlier ++ (requests ++ more)) (earlier ++ requests) (found.first ++ (found.earlier ++ found.part)) (more, sym (append_assoc earlier requests more))
+        found.taken;
+    next =
+        begins_through (before ++ (bytes ++ others)) (before ++ bytes) (found.front ++ (found.before ++ found.bytes)) (others, sym (append_assoc before bytes others)) found.next;
   }
 
-  in_part : (requests more : List Request) (bytes others : List ℕ) (to from : Mark) (place index : ℕ) → OwesInParts worker role requests bytes to → index ≡ length requests + place →
-      IsAnsweredAmong worker role from more others place → AnsweredHere (requests ++ more) (bytes ++ others) index
-  in_part requests more bytes others to from place index parts is found = record {
-    earlier = earlier ++ requests;
-    before = before ++ bytes;
-    owes = logs_then role past earlier before owes_past worker requests bytes to parts;
+  in_part : (requests more : List Request) (bytes others : List ℕ) (to from : Mark) (place index : ℕ) → OwesInParts worker role requests bytes to → IsBehind to from →
+      index ≡ length requests + place → IsAnsweredAmong worker role from more others place → AnsweredHere (requests ++ more) (bytes ++ others) index
+  in_part requests more bytes others to from place index parts behind is found = record {
+    first = earlier;
+    front = before;
+    over = owes_past;
+    earlier = requests;
+    before = bytes;
+    to = to;
+    parts = parts;
     mark = from;
+    behind = behind;
     part = more;
     bytes = others;
     at = place;
     answer = found;
-    so_many = omega (arith, is, length-append earlier requests);
-    taken = ([], sym (append_assoc earlier requests more) ∙ sym (append-nil ((earlier ++ requests) ++ more)));
-    next = ([], sym (append_assoc before bytes others) ∙ sym (append-nil ((before ++ bytes) ++ others)));
+    so_many = omega (arith, is);
+    taken = ([], sym (append-nil (earlier ++ (requests ++ more))));
+    next = ([], sym (append-nil (before ++ (bytes ++ others))));
   }
 
   parts_answers : (requests : List Request) (bytes : List ℕ) (to : Mark) → OwesInParts worker role requests bytes to → (index : ℕ) (request : Request) →
@@ -168,7 +181,7 @@ module _ (past : List Worker) (worker : Worker) (role : Role) (earlier : List Re
       ⊎_elim (λ found. inl (behind_more requests more bytes others index found)) inr (parts_answers requests bytes to parts index request inside logged))
       (λ (later : (there : ℕ) × (index ≡ length requests + there) × (slice_get more there ≡ Some request)).
       ⊎_elim
-      (λ found. inl (in_part requests more bytes others to from later.0 index parts later.1 found))
+      (λ found. inl (in_part requests more bytes others to from later.0 index parts behind later.1 found))
       inr
       (owed_answers worker role from last more others owes later.0 request later.2 logged))
       (at_either requests more index request at)

@@ -6,6 +6,7 @@ pub mod Numbers
 pub mod Rounds
 pub mod SeenInOrder
 pub mod Servings
+pub mod Sharing
 pub mod Turning
 pub mod Workings
 pub mod Tallied

@@ -8,6 +8,7 @@ pub mod Moving
 pub mod Round
 pub mod Seen
 pub mod Serving
+pub mod Sharing
 pub mod Waiting
 pub mod Tallying
 pub mod Working

@@ -1,7 +1,8 @@
 -- What a round is, in which a worker serves the connections of its queue; this project's profile.
-use Rattle.std.specs.Prelude.{◌≡◌, ◌⊎◌, ℕ, ◌+◌, ◌-◌, ◌^◌, ◌<◌, ◌≤◌, ◌&&◌, not, Bool, None, List, [], ◌∷◌, ◌++◌, min}
+use Rattle.std.specs.Prelude.{◌≡◌, ◌⊎◌, ℕ, ◌+◌, ◌-◌, ◌^◌, ◌<◌, ◌≤◌, ◌==◌, ◌&&◌, not, Bool, None, List, [], ◌∷◌, ◌++◌, min}
 use Rattle.mio.specs.Event.{event_token, is_error, is_read_closed}
 use Rattle.mio.specs.declared.event.event.Event.{Event}
+use Rattle.fair_queue.specs.Turns.{IsIdle}
 use Rattle.mc_connections.specs.InQueue.{HasLetWait, HasServedNext}
 use Rattle.mc_connections.specs.Serving.{tenant_at}
 use Rattle.mc_connections.specs.Tallying.{CountsForTenant}
@@ -29,9 +30,17 @@ queued_at worker ready = record {
   tallies = ready.tallies.all.items;
 }
 
+-- nobody waits to be served
+abbrev pub NobodyWaits : ReadyQueue → Type 0
+NobodyWaits ready = IsIdle ready.waiting.queue
+
 -- the event's token is a connection's key, and neither the waker's nor a closing stream's
 abbrev pub IsOfConnection : Event → Type 0
 IsOfConnection event = (event_token event).0 < FIRST_TOKEN
+
+-- the event is the waker's: the worker was woken
+abbrev pub is_wake : Event → Bool
+is_wake event = (event_token event).0 == 2 ^ 64 - 1
 
 -- a read that fills less than its buffer is the last one for the event: the peer hasn't closed, nor
 -- has the stream failed

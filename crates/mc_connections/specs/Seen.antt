@@ -14,7 +14,7 @@ use Rattle.mc_conn.specs.declared.conn.State.{State}
 use Rattle.mc_model.specs.declared.command.Command.{Command}
 use Rattle.mc_model.specs.declared.reply.Reply.{Reply}
 use Rattle.mc_model.specs.declared.request.Request.{Request}
-use Rattle.mc_connections.specs.Life.{IsCut, OwesInLogs, OwesInParts, came_of, sent_of}
+use Rattle.mc_connections.specs.Life.{IsBehind, IsCut, OwesInLogs, OwesInParts, came_of, sent_of}
 use Rattle.mc_connections.specs.Serving.{IsServedLater, TakesOrStops, connection_at}
 use Rattle.mc_connections.specs.Working.{Standing}
 use Rattle.mc_connections.specs.declared.connection.Connection.{Connection}
@@ -75,28 +75,35 @@ abbrev pub history_place : {worker : Worker} {role : Role} {mark : Mark}
 history_place answer = answer.placed.place
 
 -- Of requests that were taken over logs that followed one another, the one of this index was
--- answered on the last log: after what was owed for earlier ones, its worker took some requests of
--- which it is one.
+-- answered on the last log: after what the workers of the earlier logs owe for the first requests,
+-- and what its worker owes in parts for those behind them, that worker took a part of which it is
+-- one, no sooner than it had answered the parts before.
 pub record IsAnsweredOnLast (past : List Worker) (worker : Worker) (role : Role)
     (requests : List Request) (owed : List ℕ) (index : ℕ) : Type 0 where
+  pub first : List Request
+  pub front : List ℕ
+  pub over : OwesInLogs role past first front
   pub earlier : List Request
   pub before : List ℕ
-  pub owes : OwesInLogs role (past ++ worker ∷ []) earlier before
+  pub to : Mark
+  pub parts : OwesInParts worker role earlier before to
   pub mark : Mark
+  pub behind : IsBehind to mark
   pub part : List Request
   pub bytes : List ℕ
   pub at : ℕ
   pub answer : IsAnsweredAmong worker role mark part bytes at
-  pub so_many : index ≡ length earlier + at
-  pub taken : BeginsWith requests (earlier ++ part)
-  pub next : BeginsWith owed (before ++ bytes)
+  pub so_many : index ≡ length first + length earlier + at
+  pub taken : BeginsWith requests (first ++ (earlier ++ part))
+  pub next : BeginsWith owed (front ++ (before ++ bytes))
 
 -- all that is owed up to the end of its reply
 abbrev pub owed_through : {past : List Worker} {worker : Worker} {role : Role}
     {requests : List Request} {owed : List ℕ} {index : ℕ} →
     IsAnsweredOnLast past worker role requests owed index → List ℕ
 owed_through seen =
-    seen.before ++ (seen.answer.before ++ answered seen.answer.quiet seen.answer.reply)
+    seen.front
+    ++ (seen.before ++ (seen.answer.before ++ answered seen.answer.quiet seen.answer.reply))
 
 -- What is owed over logs that followed one another, split where the last log begins: what the
 -- workers of the earlier logs owe for the first requests, and then what its worker owes in parts

@@ -1,14 +1,17 @@
 //! What the definitions say of connections, log after log, and the numbers of this profile. A law
 //! is the contract of a function with an empty body, or with calls of the laws from which it
 //! follows.
-ghost use Rattle.std.specs.Prelude.{◌≡◌, ◌↔◌, ◌⊎◌, ◌<◌, [], ◌∷◌, ◌++◌, All, Bool, None, Some, true, ℕ, List, length, slice_get};
+ghost use Rattle.std.specs.Prelude.{◌≡◌, ◌↔◌, ◌⊎◌, ◌+◌, ◌*◌, ◌^◌, ◌<◌, [], ◌∷◌, ◌++◌, All, Bool, None, Some, true, ℕ, List, length, slice_get};
 ghost use Rattle.mc_conn.specs.Owed.{Mark, Owes, demand_of, is_logged};
 ghost use Rattle.mc_conn.specs.declared.conn.Role.{Role};
+ghost use Rattle.mc_conn.specs.declared.conn.Role.TheVariants.{Admin, Tenant};
+ghost use Rattle.mc_counters.specs.Tallied.{CountedRequest};
 ghost use Rattle.mc_connections.specs.Asking.{HaveBeenAsked};
 ghost use Rattle.mc_connections.specs.InTurn.{HaveServedInTurn, InTurn};
-ghost use Rattle.mc_connections.specs.Life.{OwesInLogs, OwesInParts, WasAnswered};
+ghost use Rattle.mc_connections.specs.Life.{OwesInLogs, OwesInParts, WasAnswered, came_of, sent_of};
 ghost use Rattle.mc_connections.specs.Seen.{AreAnsweredFrom, IsAnsweredAmong, IsThere, SeesThenAsks, SplitsAtLast, WasSent, announced_number, history_place};
-ghost use Rattle.mc_connections.specs.Serving.{HasComeTo};
+ghost use Rattle.mc_connections.specs.Serving.{HasComeTo, answered_between, moved_between, tenant_of};
+ghost use Rattle.mc_connections.specs.Sharing.{OthersTakeOneTurnEach, RoundsAreServes};
 ghost use Rattle.mc_connections.specs.Tallying.{tally_place};
 ghost use Rattle.mc_connections.specs.Waiting.{cost_of, flow_of};
 ghost use Rattle.mc_connections.specs.Working.{IsEmpty, KeepsPlaces, Standing, Works, standing};
@@ -18,6 +21,7 @@ ghost use Rattle.mc_connections.specs.declared.closing.TheConstants.{DROPPED_BYT
 ghost use Rattle.mc_connections.specs.declared.connecting.TheConstants.{TURNS};
 ghost use Rattle.mc_connections.specs.declared.connection.Connection.{Connection};
 ghost use Rattle.mc_connections.specs.declared.connections.Connections.{Connections};
+ghost use Rattle.mc_connections.specs.declared.connections.TheConstants.{MOST_OF_ALL};
 ghost use Rattle.mc_connections.specs.declared.places.TheConstants.{MOST_ADMINS, MOST_CONNECTIONS};
 ghost use Rattle.mc_connections.specs.declared.waiting.TheConstants.{BYTES_OF_A_REQUEST, BYTES_OF_A_SERVE, QUANTUM, ROUND};
 ghost use Rattle.mc_model.specs.declared.request.Request.{Request};
@@ -40,6 +44,7 @@ pub fn one_log_is_owed_in_parts()
 pub fn numbers_of_the_network()
     ensures connections { MOST_CONNECTIONS ≡ 1024 }
     ensures admins { MOST_ADMINS ≡ 16 }
+    ensures all { MOST_OF_ALL ≡ 1040 }
     ensures turns { TURNS ≡ 2 }
     ensures quantum { QUANTUM ≡ 20480 }
     ensures serve { BYTES_OF_A_SERVE ≡ 4096 }
@@ -49,17 +54,43 @@ pub fn numbers_of_the_network()
     ensures dropped { DROPPED_BYTES ≡ 65536 }
 {}
 
-/// Each of two tenants has a flow and a tally of its own, and administrators have the last ones.
-/// To serve a connection costs what the system's calls count as, its requests, and its bytes.
+/// Each tenant has a flow and a tally of its own, those of its number, and administrators have the
+/// last ones.
 pub fn each_tenant_has_its_own()
-    ensures flow_of_first { flow_of 3 (Some 0) ≡ 0 }
-    ensures flow_of_second { flow_of 3 (Some 1) ≡ 1 }
-    ensures flow_of_admins { flow_of 3 None ≡ 2 }
-    ensures tally_of_first { tally_place 2 (Some 0) ≡ 0 }
-    ensures tally_of_second { tally_place 2 (Some 1) ≡ 1 }
-    ensures tally_of_admins { tally_place 2 None ≡ 2 }
-    ensures cost { cost_of 2 10 ≡ 6154 }
+    ensures tenant { (tenant : ℕ) → tenant_of (Tenant tenant) ≡ Some tenant }
+    ensures admin { (names : _) → tenant_of (Admin names) ≡ None }
+    ensures flow { (tenants number : ℕ) → number < tenants →
+        flow_of (tenants + 1) (Some number) ≡ number }
+    ensures flow_of_admins { (tenants : ℕ) → flow_of (tenants + 1) None ≡ tenants }
+    ensures tally { (tenants number : ℕ) → number < tenants →
+        tally_place tenants (Some number) ≡ number }
+    ensures tally_of_admins { (tenants : ℕ) → tally_place tenants None ≡ tenants }
 {}
+
+/// To serve a connection costs 4,096, as what the system's calls count, 1,024 for each of its
+/// requests that got a reply, and 1 for each byte that came and each that was sent, as far as 64
+/// bits count.
+pub fn what_a_serve_costs()
+    ensures cost { (requests bytes : ℕ) → 4096 + requests * 1024 + bytes < 2 ^ 64 →
+        cost_of requests bytes ≡ 4096 + requests * 1024 + bytes }
+    ensures requests { (old new : Connection) (more : List CountedRequest) →
+        new.conn.past ≡ old.conn.past ++ more → length new.conn.past < 2 ^ 64 →
+        answered_between old new ≡ length more }
+    ensures bytes { (old new : Connection) (came went : List ℕ) →
+        came_of new ≡ came_of old ++ came → sent_of new ≡ sent_of old ++ went →
+        length (came_of new) + length (sent_of new) < 2 ^ 64 →
+        moved_between old new ≡ length came + length went }
+{}
+
+/// While a connection waits in a flow and none of that flow is served, the serves of each other
+/// flow in a round cost a quantum at most, and twice what the dearest of them, or the one just
+/// before, does. The connections that are served in a round, one after another, are such serves.
+pub fn others_take_one_turn_each()
+    ensures share { OthersTakeOneTurnEach }
+    ensures rounds { RoundsAreServes }
+{
+    fair_queue::laws::a_flow_waits_for_one_quantum_of_each_other();
+}
 
 /// Work adds up: none, work after work, and an arrival or the worker's catching up after work. The
 /// worker is the same later on, its connections are still of its log's roles, and as many places

@@ -1,8 +1,8 @@
 //! Which of an event loop's connections are served next.
+ghost use Rattle.std.specs.List.{list_any};
 ghost use Rattle.std.specs.Prelude.{◌≡◌, ◌+◌, ◌-◌, ◌*◌, ◌^◌, ◌≤◌, ◌↔◌, length, min, All, IfOk, IsTrue, OnOk, Some};
-ghost use Rattle.fair_queue.specs.Turns.{IsIdle};
 ghost use Rattle.mc_connections.specs.InQueue.{HasLetWait, HasServedNext};
-ghost use Rattle.mc_connections.specs.Round.{HaveCome, MakesRound, queued_at, short_of};
+ghost use Rattle.mc_connections.specs.Round.{HaveCome, MakesRound, NobodyWaits, is_wake, queued_at, short_of};
 ghost use Rattle.mc_connections.specs.Serving.{tenant_at};
 ghost use Rattle.mc_connections.specs.Tallying.{CountsForTenant, CountsNothing};
 ghost use Rattle.mc_connections.specs.Waiting.{ComesToWait, IsNoted, short_at, short_with};
@@ -60,7 +60,7 @@ impl ReadyQueue {
             (λ ready. length ready.tallies.all.items ≡ min (tenants + 1) (2 ^ 64 - 1)) }
         ensures flows { IfOk result
             (λ ready. length ready.waiting.queue.flows ≡ min (tenants + 1) (2 ^ 64 - 1)) }
-        ensures idle { IfOk result (λ ready. IsIdle ready.waiting.queue) }
+        ensures idle { IfOk result NobodyWaits }
     {
         let waiting = Waiting::new(alloc, tenants)?;
         let connections = Connections::new(alloc, tenants, reserve)?;
@@ -77,7 +77,7 @@ impl ReadyQueue {
     /// Returns whether the worker may block in `poll`: no connection is to be served before an
     /// event comes.
     pub fn may_wait(&self) -> bool
-        ensures { IsTrue result ↔ IsIdle self.now.waiting.queue }
+        ensures { IsTrue result ↔ NobodyWaits self.now }
     {
         self.waiting.is_empty()
     }
@@ -159,6 +159,8 @@ impl ReadyQueue {
     ) -> Result<bool, AllocError>
         ensures come { OnOk result (HaveCome self.old.connections self.old.waiting
             (items events.now) self.new.waiting) }
+        ensures woken { IfOk result
+            (λ is_woken. is_woken ≡ list_any is_wake (items events.now)) }
         ensures same { self.new.connections ≡ self.old.connections }
         ensures tallies { self.new.tallies ≡ self.old.tallies }
     {
@@ -198,6 +200,8 @@ impl ReadyQueue {
             (standing worker.new self.new.connections) }
         ensures round { OnOk result (MakesRound until_done (items events.now)
             (queued_at worker.old self.old) (queued_at worker.new self.new)) }
+        ensures woken { IfOk result
+            (λ is_woken. is_woken ≡ list_any is_wake (items events.now)) }
     {
         let is_woken = self.note_events(buffer, events)?;
         self.waiting.begin_round();

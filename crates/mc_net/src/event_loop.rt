@@ -1,12 +1,14 @@
 //! A worker's event loop.
-ghost use Rattle.std.specs.Prelude.{◌≡◌, ◌↔◌, ◌⊎◌, ◌*◌, ◌≤◌, Bool, length, IfOk, IsTrue, Some};
+ghost use Rattle.std.specs.Prelude.{◌≡◌, ◌↔◌, ◌⊎◌, ◌*◌, ◌≤◌, Bool, false, length, IfOk, IsTrue, None, Some};
+ghost use Rattle.mc_connections.specs.Round.{NobodyWaits};
 ghost use Rattle.mc_connections.specs.Serving.{HasComeTo};
 ghost use Rattle.mc_connections.specs.Working.{IsNewFor, KeepsPlaces, Works};
 ghost use Rattle.mc_connections.specs.declared.arrival.Admission.{Admission};
 ghost use Rattle.mc_connections.specs.declared.places.TheConstants.{MOST_CONNECTIONS};
 ghost use Rattle.mc_net.specs.Running.{HasWorked, standing_at};
 ghost use Rattle.uc_worker.specs.Going.{CatchesUp};
-ghost use Rattle.uc_worker.specs.Worker.{IsClosing, tenants_of};
+ghost use Rattle.uc_worker.specs.Steps.{HasReadOn};
+ghost use Rattle.uc_worker.specs.Worker.{IsClosing, IsUpToDate, seat_of, tenants_of};
 ghost use Rattle.uc_worker.specs.declared.worker.Worker.{Worker};
 
 use crate::ended::Ended;
@@ -200,6 +202,9 @@ impl EventLoop {
     /// memory was refused.
     fn catch_up<G: Gate>(&mut self, worker: &mut Worker<'_>, gate: &mut G)
         ensures catches_up { CatchesUp worker.old worker.new }
+        // If it notes neither, all that was decided is replayed, up to a place that was empty.
+        ensures read { self.new.is_behind ≡ false → self.new.is_starved ≡ false →
+            HasReadOn (seat_of worker.new) × IsUpToDate worker.new }
         ensures same { self.new.ready.connections ≡ self.old.ready.connections }
     {
         let caught_up = worker.catch_up_some(STRIDE, gate);
@@ -247,7 +252,11 @@ impl EventLoop {
     /// connection is to be served without an event or more may be decided in the log;
     /// `RETRY_MILLIS` if memory was refused while the worker caught up; and otherwise until an
     /// event comes.
-    fn timeout(&self, may_have_arrivals: bool) -> Option<Duration> {
+    fn timeout(&self, may_have_arrivals: bool) -> Option<Duration>
+        // It waits without an end only where nothing is left that no event would tell of.
+        ensures { result ≡ None → (may_have_arrivals ≡ false) × NobodyWaits self.now.ready
+            × (self.now.is_behind ≡ false) × (self.now.is_starved ≡ false) }
+    {
         if may_have_arrivals || !self.ready.may_wait() || self.is_behind {
             return Some(Duration::ZERO);
         }

@@ -163,7 +163,7 @@ pub record FillsLast (limits : Limits) (places logs : ℕ) (requests : List Requ
 
 -- Why these logs weren't followed by another: there was a place for each command; or once all
 -- places were taken, as many changes as another log has places couldn't all get uniques; or what
--- turns the log over was asked, and memory was refused.
+-- turns the log over was asked for, and gave none.
 pub data IsNotFollowed (refused : Worker → Type 0) (limits : Limits) (places logs : ℕ)
     (requests : List Request) : Type 0 where
   not_needed : length (commands_of requests) ≤ logs * places →

@@ -35,9 +35,9 @@ pub record AreWorkersOf (settings : Configuration) (log : Log)
   pub numbers : CountsFrom 0 (map number_of workers)
 
 -- This worker has met the other: its history begins with the other's, and each command that the
--- other has announced is in it, except for at most one, which is pending (Herlihy, Wait-Free
--- Synchronization, TOPLAS 1991, the universal construction: all processes agree on one order of the
--- decided cells, so each knows a prefix of one list).
+-- other has announced is in it, except for at most one (Herlihy, Wait-Free Synchronization, TOPLAS
+-- 1991, the universal construction: all processes agree on one order of the decided cells, so each
+-- knows a prefix of one list).
 pub record HasMet (one other : Worker) : Type 0 where
   pub log : other.log.now ≡ one.log.now
   pub front : BeginsWith (history_of one) (history_of other)

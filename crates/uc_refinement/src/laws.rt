@@ -25,8 +25,8 @@ pub fn all_workers_run_the_core()
     // Over empty tables, those of a first log, the core opens as it does in the headline's runs,
     ensures opening { (settings : Configuration) →
         core_over settings (empty_tables settings.tenants) ≡ new_core settings }
-    // and over any tables it answers each worker's own commands with the replies that
-    // `Worker::submit` gives.
+    // and over any tables, one for each tenant at least, it answers each worker's own commands, where
+    // the workers have one history, with the replies that `Worker::submit` gives.
     ensures replies { OwnHaveTheirReplies }
     // Where the workers have closed their log, its history is all of the core's log.
     ensures closed { ClosedLogsRunTheCore }

@@ -1,0 +1,46 @@
+-- What the serves of a round cost each flow while another one waits; this project's profile, by the
+-- turns of flows (surplus round-robin) that `fair_queue` has.
+use Rattle.std.specs.Prelude.{◌≡◌, ◌≢◌, ℕ, ◌+◌, ◌<◌, ◌≤◌, Bool, List, [], ◌∷◌, All, length, cond, nat_eq}
+use Rattle.fair_queue.specs.Turns.{IsFair, flow_at}
+use Rattle.mc_connections.specs.Round.{Queued, ServeInTurn, ServesNext}
+
+-- a serve of a connection: the flow in which it waited, and what this has cost
+pub record OneServe : Type 0 where
+  pub flow : ℕ
+  pub cost : ℕ
+
+-- these serves, one after another, lead from one state of a worker and its queue to another
+abbrev pub ServesLead : Bool → Queued → List OneServe → Queued → Type 0
+ServesLead until before [] after = after ≡ before
+ServesLead until before (serve ∷ serves) after =
+    (between : Queued) × (next : ServesNext until before between)
+    × (next.turn.flow ≡ serve.flow) × (between.waiting.spent ≡ serve.cost)
+    × ServesLead until between serves after
+
+-- what the serves of a flow have cost
+abbrev pub cost_in : ℕ → List OneServe → ℕ
+cost_in flow [] = 0
+cost_in flow (serve ∷ serves) = cond (nat_eq serve.flow flow) serve.cost 0 + cost_in flow serves
+
+-- the serve is of another flow than this, and costs no more than that
+abbrev pub IsOfAnother : ℕ → ℕ → OneServe → Type 0
+IsOfAnother waiting most serve = (serve.flow ≢ waiting) × (serve.cost ≤ most)
+
+-- While a connection waits in a flow and none of that flow is served, the serves of each other flow
+-- cost a quantum at most, and twice what the dearest serve does: once since a turn goes on until
+-- its quantum is used up, and once for the latest serve, which is charged before the next one.
+abbrev pub OthersTakeOneTurnEach : Type 0
+OthersTakeOneTurnEach =
+    (until : Bool) (before after : Queued) (serves : List OneServe) (waiting other most : ℕ) →
+    IsFair before.waiting.queue → waiting < length before.waiting.queue.flows →
+    0 < length (flow_at before.waiting.queue waiting).ready →
+    other < length before.waiting.queue.flows → other ≢ waiting →
+    ServesLead until before serves after → before.waiting.spent ≤ most →
+    All (IsOfAnother waiting most) serves →
+    cost_in other serves ≤ before.waiting.queue.quantum + (most + most)
+
+-- those that were served one after another in a round are such serves
+abbrev pub RoundsAreServes : Type 0
+RoundsAreServes = (until : Bool) (before after : Queued) (count : ℕ) →
+    ServeInTurn until before count after →
+    (serves : List OneServe) × (length serves ≡ count) × ServesLead until before serves after
