@@ -2,8 +2,8 @@
 # The gate: the kit's own (every proof from nothing, the mutants of must-fail/, the tests, the programs on their stored runs), and then the
 # built programs on their golden tests, wfmc over sockets, whether its clients' histories are linearizable, a round of the fuzzer (these two
 # over one log, and over one after another), calls of workers with each allocation refused, the metrics of an example by an oracle and those
-# of wfmc by what its clients know, that no crate cites another's proofs but those of a crate of lemmas, and that the picture of the crates
-# and the generated documents are up to date.
+# of wfmc by what its clients know, that no crate cites another's proofs but those of a crate of lemmas, that the picture of the crates and
+# the generated documents are up to date, and that the compatibility suite has the rows of docs/PROTOCOL.md.
 # The last line is 'N passed, M failed', in total.
 set -euo pipefail
 cd "$(dirname "$0")/.."
@@ -55,11 +55,12 @@ echo "the metrics of an example, as Prometheus reads them"
 count passes python3 tests/exposition.py
 echo "the metrics of wfmc, while it serves"
 count python3 tests/metrics.py
-echo "names, layers, the picture of the crates, and the generated documents"
+echo "names, layers, the picture of the crates, the generated documents, and the rows of what differs from memcached"
 count passes python3 tools/layers.py
 count passes tools/picture.py --check
 count passes python3 tools/promises.py --check
 count passes python3 tools/reading.py --check
+count passes python3 tools/compatibility/differences.py --check
 
 awk '{ passed += $1; failed += $3; if ($0 !~ /^[0-9]+ passed, [0-9]+ failed$/) { print; failed++ } }
      END { print passed + 0 " passed, " failed + 0 " failed" }' "${sums[@]}"

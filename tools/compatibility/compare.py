@@ -12,7 +12,7 @@ import sys
 
 import pages
 import servers
-from differences import DIFFERENCES, SAME
+from differences import DIFFERENCES, SAME, rows
 from harness import repository
 from harness.results import Results
 
@@ -56,13 +56,11 @@ def compare(where, ours, theirs):
 
 def check_rows(tried):
     """The rows are those of the page, each has a call that shows it, and no call is named that doesn't exist."""
-    page = (HERE.parent.parent / "docs/PROTOCOL.md").read_text()
-    table = page.partition("## What differs from memcached 1.6")[2].partition("\n## ")[0]
-    rows = [line.split(" | ")[0].removeprefix("| ") for line in table.splitlines() if line.startswith("| ") and not line.startswith("| |")]
-    for row in rows:
+    named = rows()
+    for row in named:
         check(f"docs/PROTOCOL.md: {row}", row in DIFFERENCES, "no call shows this row")
     for row, calls in DIFFERENCES.items():
-        check(f"differences.py: {row}", row in rows, "docs/PROTOCOL.md has no such row")
+        check(f"differences.py: {row}", row in named, "docs/PROTOCOL.md has no such row")
         for call in calls:
             check(f"differences.py: {call}", call in tried, "there is no such call")
 

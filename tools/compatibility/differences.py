@@ -2,8 +2,14 @@
 
 A call that isn't here has to be answered as by memcached; one that is, otherwise than by it, and as it stands here. `SAME` says that
 a row speaks of memcached's document alone: its release, of which Debian has 1.6.18, answers as we do.
+
+differences.py --check fails where the rows of the page and those here don't have the same names; it needs no server.
 """
 
+import pathlib
+import sys
+
+PAGE = pathlib.Path(__file__).resolve().parents[2] / "docs/PROTOCOL.md"
 SAME = object()
 REFUSED = "MemcacheClientError: expiry is not supported"
 ERROR = "b'ERROR\\r\\n'"
@@ -124,7 +130,7 @@ DIFFERENCES = {
     "uniques": {
         "pymemcache, tenants: the second's first unique": "(b'of the second', b'1')",
     },
-    "the log's end": {
+    "the last log's end": {
         "pymemcache, end of the log: a command after the last place": "MemcacheServerError: log full",
     },
     "a known name with a wrong number of words": {
@@ -143,3 +149,24 @@ DIFFERENCES = {
         "plain lines, spaces and line ends: set a 0 0 1 / x / get a": SAME,
     },
 }
+
+
+def rows():
+    """The names of the page's rows, which are their first cells."""
+    table = PAGE.read_text(encoding="utf-8").partition("## What differs from memcached 1.6")[2].partition("\n## ")[0]
+    return [line.split(" | ")[0].removeprefix("| ") for line in table.splitlines() if line.startswith("| ") and not line.startswith("| |")]
+
+
+def check_names():
+    """Ends the script where the page has a row that no call here shows, or a row here isn't one of the page."""
+    named = rows()
+    wrong = [f"no call shows the row of docs/PROTOCOL.md: {row}" for row in named if not DIFFERENCES.get(row)]
+    wrong += [f"docs/PROTOCOL.md has no such row: {row}" for row in DIFFERENCES if row not in named]
+    if wrong or not named:
+        sys.exit("\n".join(wrong) or "docs/PROTOCOL.md has no rows")
+
+
+if __name__ == "__main__":
+    if sys.argv[1:] != ["--check"]:
+        sys.exit("usage: differences.py --check")
+    check_names()
