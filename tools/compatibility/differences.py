@@ -13,6 +13,9 @@ PAGE = pathlib.Path(__file__).resolve().parents[2] / "docs/PROTOCOL.md"
 SAME = object()
 REFUSED = "MemcacheClientError: expiry is not supported"
 ERROR = "b'ERROR\\r\\n'"
+BAD_FORMAT = "b'CLIENT_ERROR bad command line format\\r\\n'"
+BAD_DELTA = "b'CLIENT_ERROR invalid numeric delta argument\\r\\n'"
+NO_NUMBER = "b'STORED\\r\\nCLIENT_ERROR cannot increment or decrement non-numeric value\\r\\n'"
 
 DIFFERENCES = {
     "exptime other than 0": {
@@ -89,9 +92,19 @@ DIFFERENCES = {
         "pymemcache, administration: version": "b'1.0.0'",
         "plain lines, limits: version": "b'VERSION 1.0.0\\r\\n'",
     },
-    "`decr` to a shorter number": {
+    "`decr` or `incr` to fewer digits": {
         "pymemcache, numbers: get after it": "b'9'",
         "python3-memcache, fewer digits: get": "'9'",
+        "plain lines, data of numbers: set n 0 0 2 / 10 / decr n 1 / get n": "b'STORED\\r\\n9\\r\\nVALUE n 0 1\\r\\n9\\r\\nEND\\r\\n'",
+        "plain lines, data of numbers: set n 0 0 3 / 007 / incr n 1 / get n": "b'STORED\\r\\n8\\r\\nVALUE n 0 1\\r\\n8\\r\\nEND\\r\\n'",
+        "plain lines, data of numbers: set n 0 0 20 / 18446744073709551615 / incr n 1 / get n": "b'STORED\\r\\n0\\r\\nVALUE n 0 1\\r\\n0\\r\\nEND\\r\\n'",
+    },
+    "data of `incr` and `decr` with blanks around the digits, a plus before them, or more than 20 of them": {
+        "plain lines, data of numbers: set n 0 0 2 / 9  / incr n 1": NO_NUMBER,
+        "plain lines, data of numbers: set n 0 0 2 /  9 / incr n 1": NO_NUMBER,
+        "plain lines, data of numbers: set n 0 0 2 / +9 / decr n 1": NO_NUMBER,
+        "plain lines, data of numbers: set n 0 0 3 / 9 x / incr n 1": NO_NUMBER,
+        "plain lines, data of numbers: set n 0 0 21 / 000000000000000000009 / incr n 1": NO_NUMBER,
     },
     "a `set` that is too large": {
         "pymemcache, after too large: get after it": "b'old'",
@@ -110,9 +123,19 @@ DIFFERENCES = {
     "`<bytes>` above 32 bits": {
         "plain lines, limits: a length above 32 bits": "b'CLIENT_ERROR bad command line format\\r\\nEND\\r\\n'",
     },
+    "a sign before a number, or a plus before an exptime": {
+        "plain lines, signs: set a +5 0 1 / x / get a": "b'CLIENT_ERROR bad command line format\\r\\nEND\\r\\n'",
+        "plain lines, signs: set a -0 0 1 / x / get a": "b'CLIENT_ERROR bad command line format\\r\\nEND\\r\\n'",
+        "plain lines, signs: set a 0 +0 1 / x / get a": "b'CLIENT_ERROR bad command line format\\r\\nEND\\r\\n'",
+        "plain lines, signs: set a 0 0 +1 / x / get a": "b'CLIENT_ERROR bad command line format\\r\\nERROR\\r\\nEND\\r\\n'",
+        "plain lines, signs: cas a 0 0 1 +1 / x": BAD_FORMAT,
+        "plain lines, signs: incr a +1": BAD_DELTA,
+        "plain lines, signs: decr a -0": BAD_DELTA,
+        "plain lines, signs: flush_all +0": BAD_FORMAT,
+    },
     "control characters in a key": {
-        "plain lines, spaces and line ends: get a<9>b": "b'CLIENT_ERROR bad command line format\\r\\n'",
-        "plain lines, spaces and line ends: get a<13>": "b'CLIENT_ERROR bad command line format\\r\\n'",
+        "plain lines, spaces and line ends: get a<9>b": BAD_FORMAT,
+        "plain lines, spaces and line ends: get a<13>": BAD_FORMAT,
         "libmemcached's tools, loads: memcaslap": "(0, [('cmd_get', '0'), ('cmd_set', '4000'), ('get_misses', '0')], '')",
     },
     "a storage line whose key, flags, exptime or unique can't be read": {
@@ -121,11 +144,19 @@ DIFFERENCES = {
         "plain lines, mistakes: set a 0 x 1 / y / get a": "b'CLIENT_ERROR bad command line format\\r\\nEND\\r\\n'",
         "plain lines, mistakes: cas a 0 0 1 x / y / get a": "b'CLIENT_ERROR bad command line format\\r\\nEND\\r\\n'",
     },
-    "a last word other than `noreply` behind a storage line": {
+    "a last word other than `noreply` behind a storage line, `incr`, `decr` or `flush_all 0`": {
         "plain lines, mistakes: set a 0 0 1 quietly / y / get a": "b'CLIENT_ERROR bad command line format\\r\\nEND\\r\\n'",
+        "plain lines, mistakes: incr a 1 quietly": BAD_FORMAT,
+        "plain lines, mistakes: decr a 1 quietly": BAD_FORMAT,
+        "plain lines, mistakes: flush_all 0 quietly": BAD_FORMAT,
     },
-    "`delete <key> <time> noreply` with a time other than `0`": {
-        "plain lines, times: delete a 1 noreply": "b'CLIENT_ERROR bad command line format\\r\\n'",
+    "a malformed `delete`, `incr`, `decr` or `flush_all` with `noreply`": {
+        "plain lines, mistakes without a reply: delete <251 bytes> noreply": BAD_FORMAT,
+        "plain lines, mistakes without a reply: delete a 1 noreply": BAD_FORMAT,
+        "plain lines, mistakes without a reply: incr <251 bytes> 1 noreply": BAD_FORMAT,
+        "plain lines, mistakes without a reply: incr a x noreply": BAD_DELTA,
+        "plain lines, mistakes without a reply: decr a x noreply": BAD_DELTA,
+        "plain lines, mistakes without a reply: flush_all x noreply": BAD_FORMAT,
     },
     "uniques": {
         "pymemcache, tenants: the second's first unique": "(b'of the second', b'1')",
@@ -139,10 +170,11 @@ DIFFERENCES = {
     },
     "a line that is too long": {
         "plain lines, limits: a line without an end": "b'CLIENT_ERROR line too long\\r\\n'",
+        "plain lines, long lines: a get of 300 keys of 250 bytes": "b'CLIENT_ERROR line too long\\r\\n'",
     },
     "words behind `CLIENT_ERROR` and `SERVER_ERROR`": {
-        "plain lines, mistakes: flush_all x": "b'CLIENT_ERROR bad command line format\\r\\n'",
-        "plain lines, times: delete a 1": "b'CLIENT_ERROR bad command line format\\r\\n'",
+        "plain lines, mistakes: flush_all x": BAD_FORMAT,
+        "plain lines, times: delete a 1": BAD_FORMAT,
     },
     "between words, and at a line's end": {
         "plain lines, spaces and line ends: set<9>a 0 0 1": SAME,

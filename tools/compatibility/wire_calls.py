@@ -72,6 +72,63 @@ def mistakes(call, servers):
             "incr " + "k" * 251 + " 1\r\n",
             "incr a -1\r\n",
             "flush_all x\r\n",
+            "incr a 1 quietly\r\n",
+            "decr a 1 quietly\r\n",
+            "flush_all 0 quietly\r\n",
+        ],
+    )
+
+
+@case()
+def mistakes_without_a_reply(call, servers):
+    lines(
+        call,
+        servers,
+        [
+            "delete " + "k" * 251 + " noreply\r\n",
+            "delete a 1 noreply\r\n",
+            "incr " + "k" * 251 + " 1 noreply\r\n",
+            "incr a x noreply\r\n",
+            "decr a x noreply\r\n",
+            "flush_all x noreply\r\n",
+        ],
+    )
+
+
+@case()
+def signs(call, servers):
+    lines(
+        call,
+        servers,
+        [
+            "set a +5 0 1\r\nx\r\nget a\r\n",
+            "set a -0 0 1\r\nx\r\nget a\r\n",
+            "set a 0 +0 1\r\nx\r\nget a\r\n",
+            "set a 0 0 +1\r\nx\r\nget a\r\n",
+            "cas a 0 0 1 +1\r\nx\r\n",
+            "incr a +1\r\n",
+            "decr a -0\r\n",
+            "flush_all +0\r\n",
+        ],
+    )
+
+
+@case()
+def data_of_numbers(call, servers):
+    lines(
+        call,
+        servers,
+        [
+            "set n 0 0 2\r\n10\r\ndecr n 1\r\nget n\r\n",
+            "set n 0 0 3\r\n007\r\nincr n 1\r\nget n\r\n",
+            "set n 0 0 20\r\n18446744073709551615\r\nincr n 1\r\nget n\r\n",
+            "set n 0 0 2\r\n9 \r\nincr n 1\r\n",
+            "set n 0 0 2\r\n 9\r\nincr n 1\r\n",
+            "set n 0 0 2\r\n+9\r\ndecr n 1\r\n",
+            "set n 0 0 3\r\n9 x\r\nincr n 1\r\n",
+            "set n 0 0 21\r\n000000000000000000009\r\nincr n 1\r\n",
+            "set n 0 0 2\r\n9x\r\nincr n 1\r\n",
+            "set n 0 0 2\r\n-9\r\nincr n 1\r\n",
         ],
     )
 
@@ -96,7 +153,6 @@ def times(call, servers):
             "set a 0 -1 1\r\nx\r\nget a\r\n",
             "set a 0 9 1 noreply\r\nx\r\nget a\r\n",
             "delete a 1\r\n",
-            "delete a 1 noreply\r\n",
             "flush_all 10\r\n",
             "flush_all 10 noreply\r\n",
         ],
@@ -119,6 +175,12 @@ def limits(call, servers):
     call("a length above 32 bits", talk, first, b"set a 0 0 99999999999\r\nget b\r\n")
     call("a get of 100 keys", talk, first, b"set k7 0 0 1\r\nx\r\nget " + b" ".join(b"k%d" % at for at in range(100)) + b"\r\n")
     call("version", talk, first, b"version\r\n")
+
+
+@case("shared")
+def long_lines(call, servers):
+    """Left out where a server for each connection, as mc_stdin, ends before it has read what is behind the line."""
+    call("a get of 300 keys of 250 bytes", talk, servers["first"], b"get " + b" ".join(b"%0250d" % at for at in range(300)) + b"\r\n")
 
 
 main("plain lines")
