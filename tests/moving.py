@@ -125,6 +125,7 @@ def fill(port):
         check("items are set", all(stored(client, key, chance.randbytes(chance.randrange(300)), at) for at, key in enumerate(KEYS)))
         check("one of nearly a mebibyte", stored(client, b"large", chance.randbytes(1_000_000), 4_294_967_295))
         check("a number", stored(client, b"number", b"41"))
+        check("one that memcached pads", stored(client, b"padded", b"10") and client.line(b"decr padded 1\r\n") == "9")
         check("a key with all other characters", stored(client, b"\xff%20=\x80&+", b"x"))
         check("items with an expiry", all(stored(client, key, b"x", expiry=3_000) for key in EXPIRING))
 
@@ -147,13 +148,14 @@ def check_move(source, server, proxy):
         proxy.stop()
         writer.join(SECONDS)
         check("a client went on meanwhile", writer.done > 200 and not writer.is_alive(), writer.done)
-        names = [*KEYS, b"large", b"number", b"\xff%20=\x80&+"]
+        names = [*KEYS, b"large", b"number", b"padded", b"\xff%20=\x80&+"]
         before = held(source.port, names)
         output, errors = process.process.communicate("\n", timeout=SECONDS)
     there = sum(reply != b"END\r\n" for reply in before.values())
     check("its status", process.process.returncode == 0, errors)
     check("what has changed is copied", re.search(r"^[1-9]\d* items copied, [1-9]\d* deleted; 20 with", output), output)
     check("all is the same at both", f"\n{there} items are the same at both\n" in output, (there, output))
+    check("padded numbers are counted", "\n1 are numbers with blanks behind them, which incr and decr refuse here\n" in output, output)
     proxy.start(server.ports["shop"])
     after = held(proxy.port, names)
     check("through the proxy all is as it was", after == before, [(key, reply) for key, reply in after.items() if reply != before[key]][:3])
@@ -166,6 +168,8 @@ def check_move(source, server, proxy):
     check("memcached's items", held(source.port, names) == before)
     with Client(proxy.port) as client:
         check("a count goes on", client.line(b"incr number 1\r\n").isdigit())
+        check("a padded one doesn't", client.line(b"incr padded 1\r\n").startswith("CLIENT_ERROR cannot increment"))
+        check("until it is set anew", stored(client, b"padded", b"9") and client.line(b"incr padded 1\r\n") == "10")
         check("a set after the switch", stored(client, b"key0", b"new"))
     check("goes to wfmc", held(server.ports["shop"], [b"key0"]) != held(source.port, [b"key0"]))
     proxy.stop()

@@ -8,7 +8,8 @@ clients first, by stopping the proxy before memcached, or otherwise. The second 
 deletes what is gone; then both servers' items are compared. With --once there is no first pass.
 
 An item with an expiry isn't copied, since it would never expire here; nor is one that wfmc refuses, for its size, its key or the quota. How
-many there were of each is printed. The tenant's own items stay, but under the keys that it copies. Nothing is changed at memcached.
+many there were of each is printed, and how many numbers have blanks behind them, as memcached's decr leaves them: these are copied as they
+are, and are no numbers here. The tenant's own items stay, but under the keys that it copies. Nothing is changed at memcached.
 
 Status 0: all items without an expiry are at both. 1: some aren't, or a server doesn't answer. 2: wrong words.
 """
@@ -18,12 +19,15 @@ import collections
 import re
 import socket
 import sys
+import time
 import urllib.parse
 
 SECONDS = 60
 KEYS_AT_ONCE = 64
 BYTES_AT_ONCE = 1 << 20
 KEY = re.compile(rb"[^\x00-\x20\x7f]{1,250}")
+PADDED = re.compile(rb"[0-9]+ +")
+NUMBER_BYTES = 20
 
 
 class Stop(Exception):
@@ -73,17 +77,30 @@ class Server:
 Listed = collections.namedtuple("Listed", "key unique size expires")
 
 
+def asked_for_keys(address):
+    """A connection of its own over which a memcached lists its keys, and the first line. One that is busy, since its crawler runs, is asked again."""
+    until = time.monotonic() + SECONDS
+    while True:
+        server = Server(address)
+        server.send(b"lru_crawler metadump hash\r\n")
+        line = server.line()
+        if not line.startswith(b"BUSY") or time.monotonic() > until:
+            return server, line
+        server.stream.close()
+        time.sleep(1)
+
+
 def listed(address):
-    """What a memcached holds, by its own list of keys; on a connection of its own, as it asks for."""
-    server = Server(address)
-    server.send(b"lru_crawler metadump hash\r\n")
+    """What a memcached holds, by its own list of keys."""
+    server, line = asked_for_keys(address)
     found = []
-    while (line := server.line()) != b"END":
+    while line != b"END":
         fields = dict(field.partition(b"=")[::2] for field in line.split(b" "))
         if b"key" not in fields:
             raise Stop(f"{address} answered {line.decode(errors='replace')} when it was asked for its keys")
         key = urllib.parse.unquote_to_bytes(fields[b"key"])
         found.append(Listed(key, int(fields[b"cas"]), int(fields[b"size"]), fields[b"exp"] != b"-1"))
+        line = server.line()
     server.stream.close()
     return found
 
@@ -101,12 +118,17 @@ def batches(items):
         yield batch
 
 
+def is_padded(data):
+    """Whether these are the data of a number that memcached has made shorter: with blanks behind it, in the place of digits."""
+    return len(data) <= NUMBER_BYTES and PADDED.fullmatch(data) is not None
+
+
 class Move:
-    """The items that were copied, with their uniques at memcached, and those that were refused, with the reply."""
+    """The items that were copied, with their uniques at memcached, those of them that are padded, and those that were refused, with the reply."""
 
     def __init__(self, source, target):
         self.source, self.target = source, target
-        self.uniques, self.refused, self.expiring = {}, {}, set()
+        self.uniques, self.refused, self.expiring, self.padded = {}, {}, set(), set()
 
     def copy(self):
         """One pass: copies the items that aren't copied as they stand, and deletes those that were copied and are gone. How many of each."""
@@ -122,6 +144,7 @@ class Move:
         for key in gone:
             target.replies_to([b"delete %s\r\n" % key])
             del self.uniques[key]
+        self.padded &= keys
         return copied, len(gone)
 
     def _put(self, source, target, batch):
@@ -133,11 +156,14 @@ class Move:
         found = {key: found[key] for key in (item.key for item in batch) if key in found}
         sets = [b"set %s %d 0 %d\r\n%s\r\n" % (key, flags, len(data), data) for key, (flags, _, data) in found.items()]
         stored = 0
-        for (key, (_, unique, _)), reply in zip(found.items(), target.replies_to(sets)):
+        for (key, (_, unique, data)), reply in zip(found.items(), target.replies_to(sets)):
+            self.padded.discard(key)
             if reply == b"STORED":
                 self.uniques[key] = unique
                 self.refused.pop(key, None)
                 stored += 1
+                if is_padded(data):
+                    self.padded.add(key)
             else:
                 self.refused[key] = reply.decode(errors="replace")
                 self._drop(target, key)
@@ -188,6 +214,8 @@ def main():
     report(move, *move.copy())
     for reply, count in collections.Counter(move.refused.values()).items():
         print(f"{count} were refused: {reply}")
+    if move.padded:
+        print(f"{len(move.padded)} are numbers with blanks behind them, which incr and decr refuse here")
     wrong = move.different()
     print(f"{len(move.uniques) - len(wrong)} items are the same at both" + (f", {len(wrong)} differ: did clients go on?" if wrong else ""))
     return 1 if move.refused or wrong else 0
