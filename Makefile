@@ -8,15 +8,16 @@ help: ## prints this list
 run: kit ## compiles mc_stdin without a proof and runs it on its first run, in a minute or two
 	@tools/try.sh mc_stdin
 
-# The first tenant's port for try; the second's is the next one.
+# The first tenant's port for try and serve; the second's is the next one.
 PORT = 11211
 try: kit ## compiles wfmc without a proof and runs it with two tenants on loopback, until it is interrupted or an hour has passed; PORT=11211
 	@tools/try.sh wfmc $(PORT)
 
-serve: kit ## proves, builds and runs wfmc with two tenants on loopback, until it is interrupted
+serve: kit ## proves, builds and runs wfmc with two tenants on loopback, until it is interrupted; PORT=11211
+	@tools/try.sh ports $(PORT)
 	@tools/prove.sh wfmc >&2
-	@printf '%s\n' "The program is crates/wfmc/out/wfmc. Two tenants, each a memcached of its own; talk to the first, for example, by: printf 'set a 0 0 1\\r\\nx\\r\\nget a\\r\\nquit\\r\\n' | nc 127.0.0.1 11211"
-	@exec crates/wfmc/out/wfmc --places 1048576 --generations 0 shop=127.0.0.1:11211,1000000,64000000 blog=127.0.0.1:11212,1000000,64000000
+	@printf '%s\n' "The program is crates/wfmc/out/wfmc. Two tenants, each a memcached of its own; talk to the first, for example, by: printf 'set a 0 0 1\\r\\nx\\r\\nget a\\r\\nquit\\r\\n' | nc 127.0.0.1 $(PORT)"
+	@exec crates/wfmc/out/wfmc --places 1048576 --generations 0 shop=127.0.0.1:$(PORT),1000000,64000000 blog=127.0.0.1:$$(($(PORT) + 1)),1000000,64000000
 
 stdin: kit ## proves, builds and runs mc_stdin on its first run, and prints what it prints
 	@tools/prove.sh mc_stdin >&2

@@ -2,7 +2,8 @@
 # The fuzzer, the histories of clients and noisy neighbours side by side, against wfmc as built, with each of 1, 2 and 4 workers: over logs that
 # follow one another, each server with no more memory than docs/OPERATING.md says, and killed once its round is over. Each of the three goes on
 # for MINUTES (20) with each number of workers, so an hour in all; the neighbours end at what fails first.
-# Prints the last lines of each; the last line is 'N passed, M failed', of the three together. What they print in full stays in out/soak/.
+# Prints the last lines of each; the last line is 'N passed, M failed', of the three together. What they print in full stays in out/soak/. An
+# interrupt ends all three, with their servers.
 #
 # Usage: tests/soak.sh [MINUTES]
 set -euo pipefail
@@ -11,6 +12,16 @@ cd "$(dirname "$0")/.."
 seconds=$((${1:-20} * 60))
 folder=out/soak
 mkdir -p "$folder"
+
+# Each of the three is in a process group of its own, with the servers that it starts: so they are ended from here.
+set -m
+end() {
+    local group
+    for group in $(jobs -p); do kill -- "-$group" 2>/dev/null || true; done
+}
+trap end EXIT
+trap 'exit 130' INT
+trap 'exit 143' TERM HUP
 
 # Measures the neighbours again and again; each server that ends early, or replies something else, ends it.
 neighbours() {

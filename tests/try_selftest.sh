@@ -1,7 +1,7 @@
 #!/usr/bin/env bash
-# Tests make try and make run: a port that is taken is refused at once; wfmc serves two tenants apart, says that nothing was proved and
-# how long that took, and leaves neither a process nor a file when it is interrupted; and mc_stdin prints what its first run must print.
-# Some minutes, most of them compiling. The last line is 'N passed, M failed'.
+# Tests make try and make run: a port that is taken is refused at once, as for make serve too; wfmc serves two tenants apart, says that
+# nothing was proved and how long that took, and leaves neither a process nor a file when it is interrupted; and mc_stdin prints what its
+# first run must print. Some minutes, most of them compiling. The last line is 'N passed, M failed'.
 set -euo pipefail
 cd "$(dirname "$0")/.."
 
@@ -43,7 +43,7 @@ refuses_a_taken_port() {
 with socket.create_server(("127.0.0.1", int(sys.argv[1]))): print(flush=True); time.sleep(60)' "$taken" >"$folder/listens" &
     tried=$!
     until [ -s "$folder/listens" ] || ! kill -0 "$tried" 2>/dev/null; do sleep 0.1; done
-    tools/try.sh wfmc "$2" >"$folder/output" 2>"$folder/errors" || status=$?
+    tools/try.sh "$3" "$2" >"$folder/output" 2>"$folder/errors" || status=$?
     kill "$tried" && { wait "$tried" || true; } 2>/dev/null
     tried=
     [ "$status" -eq 1 ] && [ ! -s "$folder/output" ] && says "$folder/errors" "127.0.0.1:$taken is taken"
@@ -73,8 +73,11 @@ leaves_nothing() { [ -z "$(ls -A "$folder/temporary")" ] || { ls "$folder/tempor
 
 shop=$(free_ports)
 blog=$((shop + 1))
-check "the first port is taken" refuses_a_taken_port "$shop" "$shop"
-check "the second port is taken" refuses_a_taken_port "$blog" "$shop"
+check "the first port is taken" refuses_a_taken_port "$shop" "$shop" wfmc
+check "the second port is taken" refuses_a_taken_port "$blog" "$shop" wfmc
+check "the first port is taken, for make serve" refuses_a_taken_port "$shop" "$shop" ports
+check "the second port is taken, for make serve" refuses_a_taken_port "$blog" "$shop" ports
+check "both are free" tools/try.sh ports "$shop"
 check "no port" eval '! tools/try.sh wfmc many >/dev/null 2>&1'
 check "no program" eval '! tools/try.sh wfmd >/dev/null 2>&1'
 

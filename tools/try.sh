@@ -2,7 +2,8 @@
 # Compiles wfmc or mc_stdin by rt try, which proves nothing, and runs it: wfmc for two tenants on loopback, until it is interrupted or an
 # hour has passed; mc_stdin on its first run. rt try adds checks at run time, which make the program slower, and passes on what it
 # prints only when it has ended, so this script says what wfmc listens to.
-# Usage: tools/try.sh wfmc [PORT] | mc_stdin. The tenants are at PORT (11211) and the next one.
+# Usage: tools/try.sh wfmc [PORT] | ports [PORT] | mc_stdin. The tenants are at PORT (11211) and the next one; `ports` looks whether these
+# are free, and nothing else.
 set -euo pipefail
 cd "$(dirname "$0")/.."
 
@@ -36,11 +37,16 @@ version_at() {
 
 is_taken() { (exec 3<>"/dev/tcp/127.0.0.1/$1") 2>/dev/null; }
 
-try_wfmc() {
-    local shop=$1 blog=$(($1 + 1)) port
-    for port in "$shop" "$blog"; do
-        ! is_taken "$port" || refuse "127.0.0.1:$port is taken, perhaps by a memcached: make try PORT=21211" 1
+need_ports() {
+    local port
+    [[ "$1" =~ ^[1-9][0-9]{0,4}$ ]] && [ "$1" -lt 65535 ] || refuse "a port is a number from 1 to 65534" 2
+    for port in "$1" $(($1 + 1)); do
+        ! is_taken "$port" || refuse "127.0.0.1:$port is taken, perhaps by a memcached: choose another by PORT=21211" 1
     done
+}
+
+try_wfmc() {
+    local shop=$1 blog=$(($1 + 1))
     (cd crates/wfmc && exec setsid rt try --seconds "$seconds" -- --places 1048576 --generations 0 \
         "shop=127.0.0.1:$shop,1000000,64000000" "blog=127.0.0.1:$blog,1000000,64000000") </dev/null >"$folder/said" 2>&1 &
     process=$!
@@ -79,13 +85,14 @@ try_stdin() {
 case ${1:-} in
     wfmc)
         port=${2:-11211}
-        [[ "$port" =~ ^[1-9][0-9]{0,4}$ ]] && [ "$port" -lt 65535 ] || refuse "a port is a number from 1 to 65534" 2
+        need_ports "$port"
         echo "Compiling wfmc without a proof: a minute or two ..." >&2
         try_wfmc "$port"
         ;;
+    ports) need_ports "${2:-11211}" ;;
     mc_stdin)
         echo "Compiling mc_stdin without a proof ..." >&2
         try_stdin
         ;;
-    *) refuse "wfmc or mc_stdin?" 2 ;;
+    *) refuse "wfmc, ports or mc_stdin?" 2 ;;
 esac
