@@ -1,20 +1,20 @@
 -- What other flows may be charged while a key waits in a flow behind others.
-use Rattle.std.proofs.Common.{◌≡◌, ℕ, ◌+◌, ◌-◌, ◌*◌, ◌<◌, ◌≤◌, zero, suc, List, [], ◌∷◌, ◌++◌, All, length, cond, nat_eq, refl, sym, ◌∙◌, ap, subst, arith, inl, inr, add-one, suc-mul}
+use Rattle.std.proofs.Common.{◌≡◌, ℕ, ◌+◌, ◌-◌, ◌*◌, ◌<◌, ◌≤◌, zero, suc, List, [], ◌∷◌, All, length, cond, nat_eq, refl, sym, ◌∙◌, ap, subst, arith, inl, inr, add-one, suc-mul}
 use Rattle.std.proofs.lemmas.Bool.Decides.{eqb_tells}
-use Rattle.std.proofs.lemmas.List.{length-append, length-set}
+use Rattle.std.proofs.lemmas.List.{length-set}
 use Rattle.std.proofs.lemmas.List.Elements.{All-head, All-tail}
 use Rattle.fair_queue.specs.Turns.{Charges, FlowState, GivesFirst, IsFair, IsPushed, QueueState, ends, flow_at, goes_on, renewed, with_flow}
 use Rattle.fair_queue.specs.Fair.{CostsAtMost, EventsLead, QueueEvent, WaitsForOneQuantumPerKey, charged_to, comes, gives, keys_given}
-use Rattle.fair_queue.proofs.Waiting.{MayTake, after_giving, after_push, at_own_turn, at_put, charge_cases, credit_left, may_take_anew, next_within, renewed_few}
+use Rattle.fair_queue.proofs.Waiting.{MayTake, after_giving, after_push, at_own_turn, at_put, charge_cases, credit_left, may_take_anew, next_within, renewed_few, takes_in}
 
 -- what neither a charge nor a key that is given changes
-record Same (old new : QueueState) : Type 0 where
-  fair : IsFair new
+pub record Same (old new : QueueState) : Type 0 where
+  pub fair : IsFair new
   quantum : new.quantum ≡ old.quantum
   count : length new.flows ≡ length old.flows
 
 -- a flow is put in its place, and its credit is no more than the quantum
-put_fair : (old : QueueState) (place turn : ℕ) (flow : FlowState) → IsFair old → place < length old.flows → turn < length old.flows →
+pub put_fair : (old : QueueState) (place turn : ℕ) (flow : FlowState) → IsFair old → place < length old.flows → turn < length old.flows →
     flow.credit ≤ old.quantum → Same old (record (with_flow old place flow) { turn = turn })
 put_fair old place turn flow fair within here few =
     let count : length (with_flow old place flow).flows ≡ length old.flows = length-set old.flows place flow in
@@ -38,7 +38,7 @@ charge_leaves old flow credit turn is fair here few = (
       (λ same. ap (λ it. it.ready) is ∙ ap (λ n. (flow_at old n).ready) (sym same)) (λ isnt. refl),
 )
 
-after_charge : (old between : QueueState) (spent : ℕ) → Charges spent old between → IsFair old →
+pub after_charge : (old between : QueueState) (spent : ℕ) → Charges spent old between → IsFair old →
     Same old between × ((number : ℕ) → (flow_at between number).ready ≡ (flow_at old number).ready)
 after_charge old between spent (goes_on flow is on then) fair =
     subst (λ state. Same old state × ((number : ℕ) → (flow_at state number).ready ≡ (flow_at old number).ready)) (sym then)
@@ -50,7 +50,7 @@ after_charge old between spent (ends flow is over next follows then) fair =
     (next_within (length old.flows) old.turn next fair.turn follows) (renewed_few old.quantum flow.credit spent))
 
 -- a flow that gives has one key fewer
-after_first : (old new : QueueState) (flow key : ℕ) → GivesFirst flow key old new → IsFair old →
+pub after_first : (old new : QueueState) (flow key : ℕ) → GivesFirst flow key old new → IsFair old →
     Same old new × ((number : ℕ) → length (flow_at old number).ready ≡ cond (nat_eq flow number) 1 0 + length (flow_at new number).ready)
 after_first old new flow key given fair =
     let put : FlowState = record (flow_at old flow) { ready = given.rest } in
@@ -104,12 +104,11 @@ own_charge old spent waiting other most bound few may =
 push_leaves : (old new : QueueState) (flow key waiting left : ℕ) → flow < length old.flows → IsPushed flow key old new →
     left < length (flow_at old waiting).ready → left < length (flow_at new waiting).ready
 push_leaves old new flow key waiting left within is more =
-    let was = flow_at old flow in
-    let put : FlowState = record was { ready = was.ready ++ (key ∷ []) } in
-    subst (λ state. left < length (flow_at state waiting).ready) (sym is)
-    (at_put (λ it. left < length it.ready) old flow put within waiting
-    (λ same. let here : left < length was.ready = subst (λ n. left < length (flow_at old n).ready) same more in
-    omega (arith, here, length-append was.ready (key ∷ []))) (λ isnt. more))
+    let into = takes_in old new flow key is in
+    subst (λ state. left < length (flow_at state waiting).ready) (sym into.is)
+    (at_put (λ it. left < length it.ready) old flow into.put within waiting
+    (λ same. let here : left < length (flow_at old flow).ready = subst (λ n. left < length (flow_at old n).ready) same more in
+    omega (arith, here, into.waits)) (λ isnt. more))
 
 -- what is charged before the key is given: what may be charged before the flow gives next, and anew for each key that is ahead
 behind : (events : List QueueEvent) (old new : QueueState) (waiting other most bound left : ℕ) → MayTake old waiting other most bound →

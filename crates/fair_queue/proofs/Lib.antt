@@ -3,3 +3,4 @@ pub mod Charging
 pub mod Looking
 pub mod Waiting
 pub mod Behind
+pub mod Order

@@ -1,8 +1,9 @@
 -- What other flows may be charged while something waits in a flow.
-use Rattle.std.proofs.Common.{◌≡◌, ◌≢◌, ℕ, ◌+◌, ◌-◌, ◌<◌, ◌≤◌, List, [], ◌∷◌, ◌++◌, All, length, cond, nat_eq, sym, ◌∙◌, ap, subst, arith, inl, inr}
+use Rattle.std.proofs.Common.{◌≡◌, ◌≢◌, ℕ, ◌+◌, ◌-◌, ◌<◌, ◌≤◌, List, [], ◌∷◌, All, length, cond, nat_eq, refl, sym, ◌∙◌, ap, subst, arith, inl, inr}
+use Rattle.std.proofs.lemmas.Grind.{common_steps}
 use Rattle.std.proofs.lemmas.Bool.{cases_lt}
 use Rattle.std.proofs.lemmas.Bool.Decides.{eqb_tells}
-use Rattle.std.proofs.lemmas.List.{get_or-set_other, get_or-set_same, length-append, length-set}
+use Rattle.std.proofs.lemmas.List.{get_or-set_other, get_or-set_same, length-set}
 use Rattle.std.proofs.lemmas.List.Elements.{All-head, All-tail}
 use Rattle.fair_queue.specs.Turns.{Charges, ComesAfter, FlowState, GivesFirst, TurnGoesOn, IsFair, IsNextTurn, IsPushed, QueueState, ends, flow_at, goes_on, idle, renewed, with_flow}
 use Rattle.fair_queue.specs.Fair.{QueueEvent, EventsLead, PassesOver, WaitsForOneQuantumEach, charged_to, comes, gives}
@@ -49,25 +50,36 @@ pub record MayTake (state : QueueState) (waiting other most bound : ℕ) : Type 
   pub before : Ahead state waiting other most bound
   own : state.turn ≡ waiting → state.quantum + most ≤ bound
 
+-- a flow into which a key comes: its credit stays, and no fewer keys wait in it
+pub record TakesIn (old new : QueueState) (flow : ℕ) : Type 0 where
+  pub put : FlowState
+  pub is : new ≡ with_flow old flow put
+  pub credit : put.credit ≡ (flow_at old flow).credit
+  pub waits : length (flow_at old flow).ready ≤ length put.ready
+
+pub takes_in : (old new : QueueState) (flow key : ℕ) → IsPushed flow key old new → TakesIn old new flow
+takes_in old new flow key is = record { put = _; is = is; credit = refl; waits = grind (arith, common_steps) }
+
 -- a key that comes charges nothing
 pub after_push : (old new : QueueState) (flow key waiting other most bound : ℕ) → flow < length old.flows → IsPushed flow key old new →
     MayTake old waiting other most bound → MayTake new waiting other most bound
 after_push old new flow key waiting other most bound within is may =
-    let was = flow_at old flow in
-    let put : FlowState = record was { ready = was.ready ++ (key ∷ []) } in
+    let into = takes_in old new flow key is in
+    let put = into.put in
     let ahead = may.before in
     let count : length (with_flow old flow put).flows ≡ length old.flows = length-set old.flows flow put in
-    subst (λ state. MayTake state waiting other most bound) (sym is) (record {
+    subst (λ state. MayTake state waiting other most bound) (sym into.is) (record {
       before = record {
         fair = record {
           quantum = ahead.fair.quantum;
           turn = subst (λ n. old.turn < n) (sym count) ahead.fair.turn;
           credit = λ number. at_put (λ it. it.credit ≤ old.quantum) old flow put within number
-              (λ same. ahead.fair.credit flow) (λ isnt. ahead.fair.credit number);
+              (λ same. subst (λ n. n ≤ old.quantum) (sym into.credit) (ahead.fair.credit flow)) (λ isnt. ahead.fair.credit number);
         };
         here = subst (λ n. waiting < n) (sym count) ahead.here;
         waits = at_put (λ it. 0 < length it.ready) old flow put within waiting
-            (λ same. omega (arith, length-append was.ready (key ∷ []))) (λ isnt. ahead.waits);
+            (λ same. let here : 0 < length (flow_at old flow).ready = subst (λ n. 0 < length (flow_at old n).ready) same ahead.waits in
+            omega (arith, here, into.waits)) (λ isnt. ahead.waits);
         within = subst (λ n. other < n) (sym count) ahead.within;
         unlike = ahead.unlike;
         ahead = λ one two first second less.
@@ -75,7 +87,7 @@ after_push old new flow key waiting other most bound within is may =
             ahead.ahead one two (subst (λ n. ComesAfter n old.turn one other) count first)
             (subst (λ n. ComesAfter n old.turn two waiting) count second) less in
             at_put (λ it. it.credit + most ≤ bound) old flow put within other
-            (λ same. subst (λ n. (flow_at old n).credit + most ≤ bound) same known) (λ isnt. known);
+            (λ same. subst (λ n. n + most ≤ bound) (sym into.credit) (subst (λ n. (flow_at old n).credit + most ≤ bound) same known)) (λ isnt. known);
       };
       own = may.own;
     })

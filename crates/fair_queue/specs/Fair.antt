@@ -1,8 +1,8 @@
 -- How long something that waits in a flow waits at most: what is charged to each other flow
--- meanwhile. The turns are those of surplus round-robin, a form of deficit round-robin (M.
--- Shreedhar, G. Varghese, SIGCOMM 1995), as `Turns` has them; the events, and the bound as it is
--- stated here, are this project's own.
-use Rattle.std.specs.Prelude.{◌≡◌, ◌≢◌, ℕ, ◌+◌, ◌*◌, ◌<◌, ◌≤◌, List, [], ◌∷◌, All, length, cond, nat_eq}
+-- meanwhile; and in which order a flow gives its keys. The turns are those of surplus round-robin,
+-- a form of deficit round-robin (M. Shreedhar, G. Varghese, SIGCOMM 1995), as `Turns` has them; the
+-- events, and the bound as it is stated here, are this project's own.
+use Rattle.std.specs.Prelude.{◌≡◌, ◌≢◌, ℕ, ◌+◌, ◌-◌, ◌*◌, ◌<◌, ◌≤◌, List, [], ◌∷◌, ◌++◌, All, Some, length, slice_get, cond, nat_eq}
 use Rattle.fair_queue.specs.Turns.{Charges, GivesFirst, IsFair, IsPushed, QueueState, flow_at}
 
 -- what happens to a queue: a key is put into a flow, or a flow gives one, once this was spent on
@@ -69,3 +69,48 @@ WaitsForOneQuantumPerKey =
     other < length old.flows → other ≢ waiting → EventsLead old events new →
     keys_given waiting events ≤ ahead → All (CostsAtMost most) events →
     charged_to other old.turn events ≤ (ahead + 1) * (old.quantum + most)
+
+-- the keys that a flow gives in these events, the first one first
+abbrev pub given_from : ℕ → List QueueEvent → List ℕ
+given_from flow [] = []
+given_from flow (comes other key ∷ events) = given_from flow events
+given_from flow (gives other key spent ∷ events) =
+    cond (nat_eq other flow) (key ∷ []) [] ++ given_from flow events
+
+-- the keys that come into a flow in these events, the first one first
+abbrev pub come_into : ℕ → List QueueEvent → List ℕ
+come_into flow [] = []
+come_into flow (comes other key ∷ events) =
+    cond (nat_eq other flow) (key ∷ []) [] ++ come_into flow events
+come_into flow (gives other key spent ∷ events) = come_into flow events
+
+-- The keys that a flow gives, followed by those that wait in it then, are those that waited in it,
+-- followed by those that come: it gives its keys in the order in which they came, repeats none and
+-- loses none.
+abbrev pub GivesInOrder : Type 0
+GivesInOrder =
+    (old new : QueueState) (events : List QueueEvent) (flow : ℕ) →
+    IsFair old → EventsLead old events new →
+    given_from flow events ++ (flow_at new flow).ready
+    ≡ (flow_at old flow).ready ++ come_into flow events
+
+-- behind that many others in this flow waits this key
+abbrev pub WaitsBehind : ℕ → ℕ → ℕ → QueueState → Type 0
+WaitsBehind ahead flow key state = slice_get (flow_at state flow).ready ahead ≡ Some key
+
+-- A key that waits behind `ahead` others of its flow waits behind one fewer for each that the flow
+-- gives, while it gives at most `ahead`, whatever comes.
+abbrev pub MovesUp : Type 0
+MovesUp =
+    (old new : QueueState) (events : List QueueEvent) (waiting key ahead : ℕ) →
+    IsFair old → WaitsBehind ahead waiting key old → EventsLead old events new →
+    keys_given waiting events ≤ ahead →
+    WaitsBehind (ahead - keys_given waiting events) waiting key new
+
+-- If the flow of a key that waits behind `ahead` others gives more than `ahead` keys, then the one
+-- that it gives after `ahead` others is this key.
+abbrev pub IsGivenAfterThoseAhead : Type 0
+IsGivenAfterThoseAhead =
+    (old new : QueueState) (events : List QueueEvent) (waiting key ahead : ℕ) →
+    IsFair old → WaitsBehind ahead waiting key old → EventsLead old events new →
+    ahead < keys_given waiting events → slice_get (given_from waiting events) ahead ≡ Some key

@@ -1,6 +1,6 @@
 //! What the calls of a queue come to, however they follow one another.
 ghost use Rattle.std.specs.Prelude.{◌≡◌, ℕ, ◌+◌, ◌-◌, ◌<◌, ◌≤◌};
-ghost use Rattle.fair_queue.specs.Fair.{WaitsForOneQuantumEach, WaitsForOneQuantumPerKey};
+ghost use Rattle.fair_queue.specs.Fair.{GivesInOrder, IsGivenAfterThoseAhead, MovesUp, WaitsForOneQuantumEach, WaitsForOneQuantumPerKey};
 ghost use Rattle.fair_queue.specs.Turns.{renewed};
 
 /// While something waits in a flow and the flow gives nothing, each other flow is charged at most a
@@ -19,6 +19,17 @@ pub fn a_flow_waits_for_one_quantum_of_each_other()
 /// `a_flow_waits_for_one_quantum_of_each_other` does.
 pub fn a_key_waits_for_one_quantum_of_each_other_flow_per_key_up_to_it()
     ensures { WaitsForOneQuantumPerKey }
+{}
+
+/// A flow gives its keys in the order in which they came, repeats none and loses none: those that
+/// it gives, followed by those that wait in it then, are those that waited in it, followed by those
+/// that come. So a key that waits behind `ahead` others of its flow waits behind one fewer for each
+/// that the flow gives, whatever comes, and it is what the flow gives after these others. It starts
+/// from any queue that is fair, as `new`, `push` and `next` leave it.
+pub fn keys_are_given_in_their_order()
+    ensures order { GivesInOrder }
+    ensures place { MovesUp }
+    ensures given { IsGivenAfterThoseAhead }
 {}
 
 /// What a flow took beyond its quantum in one turn is taken off the next one's, of which at least 1

@@ -51,3 +51,23 @@ fn ends_where_it_is_to(alloc: Global) -> Result<bool, AllocError> {
 fn a_turn_ends_where_it_is_said_to(rt: HostRuntime) {
     assert!(rt; ends_where_it_is_to(rt.alloc()) == Ok(true));
 }
+
+/// Puts three keys into a flow, and returns whether they're given in this order.
+fn are_given_from_one_flow(alloc: Global, order: &[usize]) -> Result<bool, AllocError> {
+    let mut queue = FairQueue::new(alloc, 2, 10, 4)?;
+    queue.push(1, 3)?;
+    queue.push(1, 1)?;
+    queue.push(1, 2)?;
+    for key in order {
+        let given = Ready { flow: 1, key: *key };
+        if queue.next(1) != Some(given) {
+            return Ok(false);
+        }
+    }
+    Ok(queue.is_empty())
+}
+
+#[test]
+fn a_flow_gives_its_keys_in_their_order(rt: HostRuntime) {
+    assert!(rt; are_given_from_one_flow(rt.alloc(), &[3, 1, 2]) == Ok(true));
+}
