@@ -31,8 +31,8 @@ queued_at worker ready = record {
 }
 
 -- nobody waits to be served
-abbrev pub NobodyWaits : ReadyQueue → Type 0
-NobodyWaits ready = IsIdle ready.waiting.queue
+abbrev pub NoConnectionWaits : ReadyQueue → Type 0
+NoConnectionWaits ready = IsIdle ready.waiting.queue
 
 -- the event's token is a connection's key, and neither the waker's nor a closing stream's
 abbrev pub IsOfConnection : Event → Type 0

@@ -2,7 +2,7 @@
 ghost use Rattle.std.specs.List.{list_any};
 ghost use Rattle.std.specs.Prelude.{◌≡◌, ◌+◌, ◌-◌, ◌*◌, ◌^◌, ◌≤◌, ◌↔◌, length, min, All, IfOk, IsTrue, OnOk, Some};
 ghost use Rattle.mc_connections.specs.InQueue.{HasLetWait, HasServedNext};
-ghost use Rattle.mc_connections.specs.Round.{HaveCome, MakesRound, NobodyWaits, is_wake, queued_at, short_of};
+ghost use Rattle.mc_connections.specs.Round.{HaveCome, MakesRound, NoConnectionWaits, is_wake, queued_at, short_of};
 ghost use Rattle.mc_connections.specs.Serving.{tenant_at};
 ghost use Rattle.mc_connections.specs.Tallying.{CountsForTenant, CountsNothing};
 ghost use Rattle.mc_connections.specs.Waiting.{ComesToWait, IsNoted, short_at, short_with};
@@ -60,7 +60,7 @@ impl ReadyQueue {
             (λ ready. length ready.tallies.all.items ≡ min (tenants + 1) (2 ^ 64 - 1)) }
         ensures flows { IfOk result
             (λ ready. length ready.waiting.queue.flows ≡ min (tenants + 1) (2 ^ 64 - 1)) }
-        ensures idle { IfOk result NobodyWaits }
+        ensures idle { IfOk result NoConnectionWaits }
     {
         let waiting = Waiting::new(alloc, tenants)?;
         let connections = Connections::new(alloc, tenants, reserve)?;
@@ -77,7 +77,7 @@ impl ReadyQueue {
     /// Returns whether the worker may block in `poll`: no connection is to be served before an
     /// event comes.
     pub fn may_wait(&self) -> bool
-        ensures { IsTrue result ↔ NobodyWaits self.now }
+        ensures { IsTrue result ↔ NoConnectionWaits self.now }
     {
         self.waiting.is_empty()
     }

@@ -1,6 +1,6 @@
 //! A worker's event loop.
 ghost use Rattle.std.specs.Prelude.{◌≡◌, ◌↔◌, ◌⊎◌, ◌*◌, ◌≤◌, Bool, false, length, IfOk, IsTrue, None, Some};
-ghost use Rattle.mc_connections.specs.Round.{NobodyWaits};
+ghost use Rattle.mc_connections.specs.Round.{NoConnectionWaits};
 ghost use Rattle.mc_connections.specs.Serving.{HasComeTo};
 ghost use Rattle.mc_connections.specs.Working.{IsNewFor, KeepsPlaces, Works};
 ghost use Rattle.mc_connections.specs.declared.arrival.Admission.{Admission};
@@ -254,7 +254,7 @@ impl EventLoop {
     /// event comes.
     fn timeout(&self, may_have_arrivals: bool) -> Option<Duration>
         // It waits without an end only where nothing is left that no event would tell of.
-        ensures { result ≡ None → (may_have_arrivals ≡ false) × NobodyWaits self.now.ready
+        ensures { result ≡ None → (may_have_arrivals ≡ false) × NoConnectionWaits self.now.ready
             × (self.now.is_behind ≡ false) × (self.now.is_starved ≡ false) }
     {
         if may_have_arrivals || !self.ready.may_wait() || self.is_behind {
