@@ -18,12 +18,12 @@ use Rattle.mc_conn.specs.declared.conn.Role.{Role}
 use Rattle.mc_conn.specs.declared.conn.State.{State}
 use Rattle.mc_conn.specs.declared.conn.State.TheVariants.{Closed, Idle, Busy, Full}
 use Rattle.mc_conn.specs.ConnFault.{CellTaken, ConnFault, InputFailed, IsTold, OutOfMemory, OutputFailed, fault_of}
-use Rattle.mc_conn.specs.Ending.{Breaks, HoldsOnlyBehind, IsDone, IsState, IsStuck, LogsInTime, Pulls, PullsAfter, PullsLate, PullsOnce, Serves, ServesUntil, Stops, Turns, TurnsUntil}
+use Rattle.mc_conn.specs.Ending.{Breaks, BreaksInTime, BreaksLast, HoldsOnlyBehind, IsDone, IsState, IsStuck, LogsInTime, Pulls, PullsAfter, PullsLate, PullsOnce, Serves, ServesUntil, Stops, StopsUntil, Turns, TurnsUntil}
 use Rattle.mc_conn.specs.Held.{HoldsNone, Holding}
 use Rattle.mc_conn.specs.Owed.{Mark, Owes, mark_of}
-use Rattle.mc_conn.specs.Parts.{Does, GoesRound, IsAtRest, IsHeldBehind, IsLeft, StateIs, TellsOf}
+use Rattle.mc_conn.specs.Parts.{Does, GoesRound, IsAtRest, IsHeldBehind, IsLeft, StateIs, StopsRound, TellsOf}
 use Rattle.mc_conn.specs.Turn.{Scene, Takes, amount, holding_of, queue_of, scene}
-use Rattle.mc_conn.proofs.Breakings.{breaks_later}
+use Rattle.mc_conn.proofs.Breakings.{breaks_in_time_later, breaks_later}
 use Rattle.lists.proofs.Public.{appended_twice}
 use Rattle.mc_conn.proofs.Awaiting.{left_later, none_left}
 use Rattle.mc_conn.proofs.Takings.{does_trans, in_time_trans, sent_last, takes_trans}
@@ -364,7 +364,7 @@ turns a z state round =
       unfull,
     )
 
-pub never_full : (closed : Bool) (result : Result State Fault) (a z : Scene) → (closed ≡ false → MatchResult result (GoesRound false a z) (Stops a z)) → (closed ≡ true → result ≡ Ok Closed) →
+pub never_full : (closed : Bool) (result : Result State Fault) (a z : Scene) → (closed ≡ false → MatchResult result (GoesRound false a z) (StopsRound false a z)) → (closed ≡ true → result ≡ Ok Closed) →
     IfOk result (λ state. state ≢ Full)
 never_full false (Ok state) a z goes stays = (turns a z state (goes refl)).1
 never_full true (Ok state) a z goes stays = λ full. let is : Ok state ≡ Ok Closed = stays refl in cc
@@ -428,6 +428,16 @@ module _ (before : Scene) (old new : Conn) (worker : Worker) (input : Inflow) (b
     shut = shut;
   }
 
+  -- in time, if the fault was
+  pub stops_in_time : (shut : new.is_closed ≡ true) → BreaksInTime breaks → BreaksInTime (stops shut).breaks
+  unfolding stops closed
+  stops_in_time shut = ⊎_elim
+      inl
+      (λ (last : (moment : Scene) × BreaksLast before moment (scene old worker (both input between)) fault breaks). inr (
+        last.0,
+        record { first = last.1.first; room = last.1.room; onward = last.1.onward; rest = last.1.rest; one = last.1.one; all = last.1.all },
+      ))
+
   pub pulls_told : Pulls before (scene old worker (both input between)) → Pulls before (scene new worker (both input after))
   pulls_told pulls = record {
     once = pulls.once;
@@ -442,6 +452,14 @@ stops_later fault a b c one two = record {
   breaks = breaks_later fault a b (scene c.conn c.worker (both c.streams.input two.told_from)) one two.breaks;
   told = two.told;
   shut = two.shut;
+}
+
+-- and in time, if both are
+pub stops_until_later : (fault : Fault) (a b c : Scene) (one : Takes a b) → LogsInTime one → StopsUntil b c fault → StopsUntil a c fault
+unfolding stops_later
+stops_until_later fault a b c one first two = record {
+  stops = stops_later fault a b c one two.stops;
+  in_time = breaks_in_time_later fault a b (scene c.conn c.worker (both c.streams.input two.stops.told_from)) one two.stops.breaks first two.in_time;
 }
 
 -- turns that went well, and one that closes

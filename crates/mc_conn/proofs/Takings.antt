@@ -35,11 +35,11 @@ abbrev Remembers : Bool → Inflow → Bool → Inflow → Type 0
 Remembers was before is after =
     MatchBool is ((was ≡ true) × (after ≡ before) ⊎ (has_ended after.events ≡ true) × IsAtEnd after.left) ((was ≡ false) × (ends after.events ≡ ends before.events))
 
-remembers_self : (is : Bool) (input : Inflow) → Remembers is input is input
+pub remembers_self : (is : Bool) (input : Inflow) → Remembers is input is input
 remembers_self true input = inl (refl, refl)
 remembers_self false input = (refl, refl)
 
-remembers_trans : (first second third : Bool) (one two three : Inflow) → Remembers first one second two → Remembers second two third three → Remembers first one third three
+pub remembers_trans : (first second third : Bool) (one two three : Inflow) → Remembers first one second two → Remembers second two third three → Remembers first one third three
 remembers_trans first true true one two three begun ended =
     ⊎_elim
     (λ (same : (true ≡ true) × (three ≡ two)). ⊎_elim
@@ -74,14 +74,14 @@ or_assoc true y z = refl
 or_assoc false y z = refl
 
 -- a request that ends the stream is remembered through two parts
-over_trans : (first second third : Bool) (one two : List Request) → second ≡ (first || list_any ends_stream one) → third ≡ (second || list_any ends_stream two) →
+pub over_trans : (first second third : Bool) (one two : List Request) → second ≡ (first || list_any ends_stream one) → third ≡ (second || list_any ends_stream two) →
     third ≡ (first || list_any ends_stream (one ++ two))
 over_trans first second third one two begun ended =
     ended
     ∙ (ap (λ over. over || list_any ends_stream two) begun
     ∙ (sym (or_assoc first (list_any ends_stream one) (list_any ends_stream two)) ∙ ap (λ any. first || any) (sym (list_any-append ends_stream one two))))
 
-unfailed_trans : (first second third : Streams) → NeitherFails first second → NeitherFails second third → NeitherFails first third
+pub unfailed_trans : (first second third : Streams) → NeitherFails first second → NeitherFails second third → NeitherFails first third
 unfailed_trans first second third one two = (two.0 ∙ one.0, two.1 ∙ one.1)
 
 -- what was taken if no request was
@@ -142,7 +142,7 @@ count_logged-append role [] second = omega arith
 count_logged-append role (request ∷ first) second = let rest = count_logged-append role first second in omega (arith, rest)
 
 -- a part that does nothing
-pub takes_self : (a : Scene) → Takes a a
+unfoldable pub takes_self : (a : Scene) → Takes a a
 unfolding taken_still taken_none
 takes_self a = record {
   taken = taken_still a.conn a.conn a.worker a.streams refl refl refl;
@@ -157,7 +157,7 @@ pub in_time_self : (a : Scene) → LogsInTime (takes_self a)
 unfolding takes_self taken_still taken_none
 in_time_self a = inl refl
 
-pub takes_trans : (a b c : Scene) → Takes a b → Takes b c → Takes a c
+unfoldable pub takes_trans : (a b c : Scene) → Takes a b → Takes b c → Takes a c
 unfolding taken_trans
 takes_trans a b c one two = record {
   taken = taken_trans a b c (mark_of c.worker) one.taken two.taken;

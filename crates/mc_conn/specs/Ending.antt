@@ -182,6 +182,24 @@ pub record Breaks (before after : Scene) (fault : Fault) : Type 0 where
   pub meets : Meets after.worker before.conn.role to met
   pub failures : CountsFailures cause before.streams after.streams
 
+-- Of the requests that were taken, and the one that met the fault, all that are to be logged but the
+-- last were taken before a moment at which the worker's log wasn't closing yet, and that one after
+-- it.
+pub record BreaksLast (before between after : Scene) (fault : Fault)
+    (breaks : Breaks before after fault) : Type 0 where
+  pub first : Takes before between
+  pub room : ¬ (IsClosing between.worker)
+  pub onward : Continues between.worker after.worker
+  pub rest : List Request
+  pub one : count_logged before.conn.role rest ≡ 1
+  pub all : breaks.taken.requests ++ breaks.met ≡ first.taken.requests ++ rest
+
+-- no request was logged, or met the fault as it was to be, at a worker whose log was closing
+abbrev pub BreaksInTime : {before after : Scene} {fault : Fault} → Breaks before after fault → Type 0
+BreaksInTime {before} {after} {fault} breaks =
+    (count_logged before.conn.role (breaks.taken.requests ++ breaks.met) ≡ 0)
+    ⊎ (between : Scene) × BreaksLast before between after fault breaks
+
 -- what a fault leaves: the connection was served up to it, then the client gets what is sent about
 -- it, and the connection is closed for good
 pub record Stops (before after : Scene) (fault : Fault) : Type 0 where
@@ -190,6 +208,11 @@ pub record Stops (before after : Scene) (fault : Fault) : Type 0 where
       (scene after.conn after.worker (both after.streams.input told_from)) fault
   pub told : IsTold breaks.cause (queue_of after.conn) told_from after.streams.output
   pub shut : after.conn.is_closed ≡ true
+
+-- what a fault leaves of a turn that leaves commands to the next log
+pub record StopsUntil (before after : Scene) (fault : Fault) : Type 0 where
+  pub stops : Stops before after fault
+  pub in_time : BreaksInTime stops.breaks
 
 -- turns up to the end: all that came and was held is taken, and all that was queued and is owed is
 -- sent

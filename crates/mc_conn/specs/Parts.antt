@@ -18,7 +18,7 @@ use Rattle.mc_conn.specs.declared.conn.State.{State}
 use Rattle.mc_conn.specs.declared.conn.State.TheVariants.{Closed, Idle, Busy, Full}
 use Rattle.mc_conn.specs.declared.conn.TheConstants.{QUEUE_BYTES}
 use Rattle.mc_conn.specs.ConnFault.{TellsStarved}
-use Rattle.mc_conn.specs.Ending.{AwaitsLog, HoldsOnlyBehind, IsState, LogsInTime, TakesWithin}
+use Rattle.mc_conn.specs.Ending.{AwaitsLog, Breaks, BreaksInTime, HoldsOnlyBehind, IsState, LogsInTime, Stops, TakesWithin}
 use Rattle.mc_conn.specs.Held.{HoldsNone}
 use Rattle.mc_conn.specs.Onward.{own_sighting}
 use Rattle.uc_worker.specs.Going.{Continues}
@@ -33,6 +33,11 @@ pub record Does (until : Bool) (before after : Scene) (did : Bool) : Type 0 wher
   pub did_is : MatchBool did (0 < amount takes) (amount takes ≡ 0)
   pub in_time : until ≡ true → LogsInTime takes
   pub within : TakesWithin takes
+
+-- a fault in a part of a turn; whether commands are left to the next log is the first argument
+pub record Fails (until : Bool) (before after : Scene) (fault : Fault) : Type 0 where
+  pub breaks : Breaks before after fault
+  pub in_time : until ≡ true → BreaksInTime breaks
 
 -- a command was answered
 pub record AnswersCommand (old new : Worker) (tenant : ℕ) (command : Command)
@@ -148,6 +153,11 @@ pub record GoesRound (until : Bool) (before after : Scene) (state : State) : Typ
   pub within : TakesWithin takes
   pub left : (queue_of after.conn ≡ [])
       ⊎ (waits before.streams.output.events < waits after.streams.output.events)
+
+-- a turn that a fault has ended, which may leave commands to the next log
+pub record StopsRound (until : Bool) (before after : Scene) (fault : Fault) : Type 0 where
+  pub stops : Stops before after fault
+  pub in_time : until ≡ true → BreaksInTime stops.breaks
 
 -- what the client gets when a fault closes the connection
 abbrev pub TellsOf : Fault → List ℕ → Outflow → Outflow → Type 0

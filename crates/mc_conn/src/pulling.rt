@@ -4,8 +4,8 @@ ghost use Rattle.mc_stream.specs.Event.{waits};
 ghost use Rattle.mc_stream.specs.Stream.{Outflow, both};
 ghost use Rattle.uc_worker.specs.declared.worker.Worker.{Worker};
 ghost use Rattle.mc_conn.specs.declared.conn.TheConstants.{QUEUE_BYTES};
-ghost use Rattle.mc_conn.specs.Ending.{Breaks, Pulls, PullsFew, PullsOnce};
-ghost use Rattle.mc_conn.specs.Parts.{Does, IsHeldBehind, IsLeft};
+ghost use Rattle.mc_conn.specs.Ending.{Pulls, PullsFew, PullsOnce};
+ghost use Rattle.mc_conn.specs.Parts.{Does, Fails, IsHeldBehind, IsLeft};
 ghost use Rattle.mc_conn.specs.Owed.{FitsLog};
 ghost use Rattle.mc_conn.specs.Tallying.{HasCounted};
 ghost use Rattle.mc_conn.specs.Turn.{queue_of, scene};
@@ -28,8 +28,8 @@ impl Conn {
             (λ did. (until : Bool) (worker : Worker) (output : Outflow) →
             Does until (scene self.old worker (both (I.tells input.old) output))
             (scene self.new worker (both (I.tells input.new) output)) did)
-            (λ fault. (worker : Worker) (output : Outflow) →
-            Breaks (scene self.old worker (both (I.tells input.old) output))
+            (λ fault. (until : Bool) (worker : Worker) (output : Outflow) →
+            Fails until (scene self.old worker (both (I.tells input.old) output))
             (scene self.new worker (both (I.tells input.new) output)) fault) }
         ensures stuck { IfOk result (λ did. did ≡ false →
             (waits (I.tells input.new).events ≡ waits (I.tells input.old).events + 1)
@@ -71,7 +71,8 @@ impl Conn {
             (Does until_done
             (scene self.old worker.old (both (I.tells input.old) (O.tells output.old)))
             (scene self.new worker.new (both (I.tells input.new) (O.tells output.new))))
-            (Breaks (scene self.old worker.old (both (I.tells input.old) (O.tells output.old)))
+            (Fails until_done
+            (scene self.old worker.old (both (I.tells input.old) (O.tells output.old)))
             (scene self.new worker.new (both (I.tells input.new) (O.tells output.new)))) }
         ensures held { OnOk result (IsHeldBehind until_done self.new worker.new) }
         ensures stuck { IfOk result

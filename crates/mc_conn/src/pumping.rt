@@ -1,7 +1,7 @@
 //! Serving a connection from its beginning to its end.
 ghost use Rattle.std.specs.Prelude.{◌≡◌, true, false, Ok, MatchResult};
 ghost use Rattle.mc_stream.specs.Stream.{both};
-ghost use Rattle.mc_conn.specs.Ending.{PullsLate, Serves, ServesUntil, Stops};
+ghost use Rattle.mc_conn.specs.Ending.{PullsLate, Serves, ServesUntil, Stops, StopsUntil};
 ghost use Rattle.mc_conn.specs.Owed.{FitsLog};
 ghost use Rattle.mc_conn.specs.Turn.{scene};
 
@@ -67,7 +67,7 @@ pub fn pump_until<R: Wait, I: Input, O: Output>(
     ensures outcome { conn.old.is_closed ≡ false → MatchResult result
         (ServesUntil (scene conn.old worker.old (both (I.tells input.old) (O.tells output.old)))
         (scene conn.new worker.new (both (I.tells input.new) (O.tells output.new))))
-        (Stops (scene conn.old worker.old (both (I.tells input.old) (O.tells output.old)))
+        (StopsUntil (scene conn.old worker.old (both (I.tells input.old) (O.tells output.old)))
         (scene conn.new worker.new (both (I.tells input.new) (O.tells output.new)))) }
     ensures late { PullsLate
         (scene conn.old worker.old (both (I.tells input.old) (O.tells output.old)))

@@ -3,9 +3,9 @@ ghost use Rattle.std.specs.Bool.{MatchBool};
 ghost use Rattle.std.specs.Prelude.{◌≡◌, ◌≢◌, ◌⊎◌, ◌↔◌, ◌<◌, ◌≤◌, [], Bool, true, false, length, None, IfOk, IsOkUnless, IsTrue, MatchResult, OnOk};
 ghost use Rattle.mc_model.specs.declared.fault.Fault.TheVariants as faults;
 ghost use Rattle.mc_stream.specs.Stream.{Streams};
-ghost use Rattle.mc_conn.specs.Ending.{AwaitsLog, Breaks};
+ghost use Rattle.mc_conn.specs.Ending.{AwaitsLog};
 ghost use Rattle.mc_conn.specs.Held.{HoldsNone, IsRead, most_held};
-ghost use Rattle.mc_conn.specs.Parts.{Does, IsHeldBehind, IsLeft, KeepsStreams, LooksForNext};
+ghost use Rattle.mc_conn.specs.Parts.{Does, Fails, IsHeldBehind, IsLeft, KeepsStreams, LooksForNext};
 ghost use Rattle.mc_conn.specs.Owed.{FitsLog, demand_of, is_logged};
 ghost use Rattle.mc_conn.specs.Tallying.{HasCounted};
 ghost use Rattle.mc_conn.specs.Turn.{holding_of, queue_of, scene};
@@ -79,8 +79,9 @@ impl Conn {
             length (queue_of self.old) ≤ QUEUE_BYTES →
             Does until (scene self.old worker.old streams)
             (scene self.new worker.new streams) did)
-            (λ fault. (streams : Streams) →
-            Breaks (scene self.old worker.old streams) (scene self.new worker.new streams) fault) }
+            (λ fault. (until : Bool) (streams : Streams) → ¬ (IsLeft until self.old worker.old) →
+            Fails until (scene self.old worker.old streams) (scene self.new worker.new streams)
+            fault) }
         ensures fewer { IfOk result (λ did. MatchBool did
             (most_held (holding_of self.new) < most_held (holding_of self.old))
             ((self.old.waiting ≡ None) × (self.new ≡ self.old))) }
@@ -114,7 +115,8 @@ impl Conn {
             Does until_done (scene self.old worker.old streams)
             (scene self.new worker.new streams) did)
             (λ fault. (streams : Streams) →
-            Breaks (scene self.old worker.old streams) (scene self.new worker.new streams) fault) }
+            Fails until_done (scene self.old worker.old streams)
+            (scene self.new worker.new streams) fault) }
         ensures fewer { IfOk result
             (λ did. did ≡ true →
             most_held (holding_of self.new) < most_held (holding_of self.old)) }
@@ -148,7 +150,8 @@ impl Conn {
             Does until_done (scene self.old worker.old streams)
             (scene self.new worker.new streams) did)
             (λ fault. (streams : Streams) →
-            Breaks (scene self.old worker.old streams) (scene self.new worker.new streams) fault) }
+            Fails until_done (scene self.old worker.old streams)
+            (scene self.new worker.new streams) fault) }
         ensures held { OnOk result (IsHeldBehind until_done self.new worker.new) }
         ensures keeps { KeepsStreams self.old self.new worker.old worker.new }
         ensures tally { HasCounted self.old.past self.new.past tally.old tally.new }

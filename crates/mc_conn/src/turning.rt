@@ -3,8 +3,8 @@ ghost use Rattle.std.specs.Prelude.{◌≡◌, ◌≢◌, ◌++◌, List, true, 
 ghost use Rattle.mc_counters.specs.Tallied.{CountedRequest, IsTallyOf};
 ghost use Rattle.mc_stream.specs.Stream.{both};
 ghost use Rattle.mc_conn.specs.ConnFault.{TellsStarved};
-ghost use Rattle.mc_conn.specs.Ending.{Breaks, Pulls, PullsFew, Stops, Turns, TurnsUntil};
-ghost use Rattle.mc_conn.specs.Parts.{GoesRound, StateIs, TellsOf};
+ghost use Rattle.mc_conn.specs.Ending.{Pulls, PullsFew, Stops, StopsUntil, Turns, TurnsUntil};
+ghost use Rattle.mc_conn.specs.Parts.{Fails, GoesRound, StateIs, StopsRound, TellsOf};
 ghost use Rattle.mc_conn.specs.Owed.{FitsLog};
 ghost use Rattle.mc_conn.specs.Tallying.{HasCounted, HasCountedTo, counted_at};
 ghost use Rattle.mc_conn.specs.Turn.{queue_of, scene};
@@ -72,7 +72,8 @@ impl Conn {
             (GoesRound until_done
             (scene self.old worker.old (both (I.tells input.old) (O.tells output.old)))
             (scene self.new worker.new (both (I.tells input.new) (O.tells output.new))))
-            (Breaks (scene self.old worker.old (both (I.tells input.old) (O.tells output.old)))
+            (Fails until_done
+            (scene self.old worker.old (both (I.tells input.old) (O.tells output.old)))
             (scene self.new worker.new (both (I.tells input.new) (O.tells output.new)))) }
         ensures pulls { Pulls
             (scene self.old worker.old (both (I.tells input.old) (O.tells output.old)))
@@ -118,7 +119,8 @@ impl Conn {
             (GoesRound until_done
             (scene self.old worker.old (both (I.tells input.old) (O.tells output.old)))
             (scene self.new worker.new (both (I.tells input.new) (O.tells output.new))))
-            (Stops (scene self.old worker.old (both (I.tells input.old) (O.tells output.old)))
+            (StopsRound until_done
+            (scene self.old worker.old (both (I.tells input.old) (O.tells output.old)))
             (scene self.new worker.new (both (I.tells input.new) (O.tells output.new)))) }
         ensures pulls { Pulls
             (scene self.old worker.old (both (I.tells input.old) (O.tells output.old)))
@@ -211,12 +213,12 @@ impl Conn {
         tally: &mut Tally,
     ) -> Result<State, Fault>
         requires role { FitsLog self.old.role worker.old }
-        // As for `turn`; and unless a fault ended it, no request was logged once the worker's log
-        // was closing.
+        // As for `turn`; and no request was logged once the worker's log was closing, whether or
+        // not a fault ended the turn.
         ensures outcome { self.old.is_closed ≡ false → MatchResult result
             (TurnsUntil (scene self.old worker.old (both (I.tells input.old) (O.tells output.old)))
             (scene self.new worker.new (both (I.tells input.new) (O.tells output.new))))
-            (Stops (scene self.old worker.old (both (I.tells input.old) (O.tells output.old)))
+            (StopsUntil (scene self.old worker.old (both (I.tells input.old) (O.tells output.old)))
             (scene self.new worker.new (both (I.tells input.new) (O.tells output.new)))) }
         ensures pulls { Pulls
             (scene self.old worker.old (both (I.tells input.old) (O.tells output.old)))

@@ -1,6 +1,6 @@
 use Rattle.std.proofs.Common.{◌∙◌, inl, refl}
 use Rattle.std.proofs.lemmas.Result.{err_from_is_err_and}
-use Rattle.mc_conn.proofs.Endings.{late_later, serves_closed, serves_full, stops_later, stops_push}
+use Rattle.mc_conn.proofs.Endings.{late_later, serves_closed, serves_full, stops_push, stops_until_later}
 use Rattle.mc_conn.proofs.Takings.{in_time_self, in_time_trans, takes_self, takes_trans}
 use Rattle.mc_conn.proofs.pumping.pump_until.Goals as goal
 
@@ -10,7 +10,7 @@ loop-init g c = record { begun = c.if-conn.false; going = c.if-conn.false; takes
 pub returns-in_err-turn_until-clause-outcome : goal.returns-in_err-turn_until-clause-outcome
 returns-in_err-turn_until-clause-outcome g c =
     let out = err_from_is_err_and c.from_residual.result c.from_residual.ensures.1 in
-    rw (out.1, out.2) (λ begun. stops_later c.in_err-turn_until.field-0.0 _ _ _ c.loop.invariant.takes (c.in_err-turn_until.ensures.outcome c.loop.invariant.going))
+    rw (out.1, out.2) (λ begun. stops_until_later c.in_err-turn_until.field-0.0 _ _ _ c.loop.invariant.takes c.loop.invariant.in_time (c.in_err-turn_until.ensures.outcome c.loop.invariant.going))
 
 pub returns-in-Closed-clause-outcome : goal.returns-in-Closed-clause-outcome
 returns-in-Closed-clause-outcome g c begun = serves_closed _ _ _ _ c.loop.invariant.takes c.loop.invariant.in_time (c.in_ok-turn_until.ensures.outcome c.loop.invariant.going) c.in-Closed.is
@@ -49,7 +49,7 @@ loop-preserved g c =
 
 pub returns-in_err-turn_until-clause-late : goal.returns-in_err-turn_until-clause-late
 returns-in_err-turn_until-clause-late g c =
-    let stopped = c.in_err-turn_until.ensures.outcome c.loop.invariant.going in
+    let stopped = (c.in_err-turn_until.ensures.outcome c.loop.invariant.going).stops in
     let more = stops_push c.in_err-turn_until.field-0.0 _ _ stopped in
     late_later _ _ _ c.loop.invariant.takes c.loop.invariant.late c.turn_until.ensures.pulls.late stopped.breaks.taken.onward more.0 more.1 more.2
 

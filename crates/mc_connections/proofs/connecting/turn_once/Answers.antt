@@ -1,7 +1,8 @@
 use Rattle.std.proofs.Common.{Bool, subst, sym, ◌≡◌, false, MatchResult}
-use Rattle.mc_conn.specs.Ending.{Stops}
+use Rattle.mc_conn.specs.Ending.{Stops, StopsUntil, TurnsUntil}
 use Rattle.mc_conn.specs.Turn.{scene}
 use Rattle.mc_connections.specs.Serving.{TurnsOnce}
+use Rattle.mc_connections.proofs.Turning.{on_err}
 use Rattle.mc_stream.specs.Stream.{both}
 use Rattle.mc_connections.proofs.connecting.turn_once.Goals as goal
 
@@ -9,7 +10,8 @@ pub returns-then-until_done-clause-outcome : goal.returns-then-until_done-clause
 returns-then-until_done-clause-outcome g c =
     let before = scene c.args.conn.now c.args.worker.now (both (g.I.Input.tells c.args.input.now) (g.O.Output.tells c.args.output.now)) in
     let after = scene c.turn_until.new.self c.turn_until.new.worker (both (g.I.Input.tells c.turn_until.new.input) (g.O.Output.tells c.turn_until.new.output)) in
-    subst (λ (until : Bool). c.args.conn.now.is_closed ≡ false → MatchResult c.turn_until.result (TurnsOnce until before after) (Stops before after)) (sym c.if-until_done.true) c.turn_until.ensures.outcome
+    subst (λ (until : Bool). c.args.conn.now.is_closed ≡ false → MatchResult c.turn_until.result (TurnsOnce until before after) (Stops before after)) (sym c.if-until_done.true)
+    (λ going. on_err c.turn_until.result (TurnsUntil before after) (StopsUntil before after) (Stops before after) (λ fault ended. ended.stops) (c.turn_until.ensures.outcome going))
 
 pub returns-else-until_done-clause-outcome : goal.returns-else-until_done-clause-outcome
 returns-else-until_done-clause-outcome g c =

@@ -42,7 +42,7 @@ returns-in_err-pump_until-clause-served g c =
       through = c.logs_of_a_worker_alone_add_up.ensures.through;
       reads = c.parts_add_up.ensures.read;
     })
-    c.in_err-pump_until.field-0.0 _ (c.in_err-pump_until.ensures.outcome c.requires.going) c.pump_until.ensures.late)
+    c.in_err-pump_until.field-0.0 _ (c.in_err-pump_until.ensures.outcome c.requires.going).stops c.pump_until.ensures.late)
 
 pub returns-in-Closed-clause-served : goal.returns-in-Closed-clause-served
 returns-in-Closed-clause-served g c limits places logs first served settings fresh =

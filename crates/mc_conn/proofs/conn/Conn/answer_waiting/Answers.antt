@@ -1,6 +1,6 @@
 use Rattle.std.proofs.Common.{◌≡◌, ◌||◌, Some, refl, ap}
 use Rattle.std.proofs.lemmas.Result.{err_from_is_err_and}
-use Rattle.mc_conn.proofs.Breakings.{breaks_taking}
+use Rattle.mc_conn.proofs.Breakings.{fails_taking}
 use Rattle.mc_read.specs.Administering.{lines_spoken}
 use Rattle.mc_conn.proofs.Awaiting.{not_left}
 use Rattle.mc_conn.proofs.Readings.{fewer_taken, read_answered, read_same}
@@ -30,10 +30,10 @@ returns-in_err-respond-in-Some-clause-outcome g c =
     let is = c.in-Some.is in
     let old : c.args.self.now.waiting ≡ Some c.in-Some.request = cc in
     let out = err_from_is_err_and c.from_residual.result c.from_residual.ensures.1 in
-    rw (out.1, out.2) (λ streams.
-    breaks_taking c.in_err-respond-in-Some.field-0.0 c.args.self.now _ _ _ streams c.in-Some.request
+    rw (out.1, out.2) (λ until streams room.
+    fails_taking c.in_err-respond-in-Some.field-0.0 c.args.self.now _ _ _ streams c.in-Some.request
     (read_answered (lines_spoken c.args.self.now.reader.speaker) c.args.self.now.waiting c.take.new.self c.args.self.now.reader.held c.in-Some.request old c.take.ensures.after) refl c.in_err-respond-in-Some.ensures.counts c.respond.ensures.onward
-    c.in_err-respond-in-Some.ensures.outcome)
+    c.in_err-respond-in-Some.ensures.outcome until (not_left until c.args.self.now c.args.worker.now c.in-Some.request old room))
 
 pub returns-in-None-clause-outcome : goal.returns-in-None-clause-outcome
 returns-in-None-clause-outcome g c until streams room few =

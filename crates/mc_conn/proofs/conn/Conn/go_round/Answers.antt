@@ -3,7 +3,7 @@ use Rattle.std.proofs.lemmas.Result.{err_from_is_err_and}
 use Rattle.mc_stream.specs.Stream.{both}
 use Rattle.mc_conn.specs.Turn.{scene}
 use Rattle.uc_worker.specs.contracts.laws.WorkerGoesOn.TheImpl.{continues_self-value}
-use Rattle.mc_conn.proofs.Breakings.{breaks_later}
+use Rattle.mc_conn.proofs.Breakings.{fails_later}
 use Rattle.mc_conn.proofs.Endings.{goes_round, pulls_within}
 use Rattle.mc_conn.proofs.Takings.{does_trans}
 use Rattle.mc_conn.proofs.Countings.{tallies_same, tallies_trans, tallies_within}
@@ -12,25 +12,25 @@ use Rattle.mc_conn.proofs.conn.Conn.go_round.Goals as goal
 pub returns-in_err-first-clause-outcome : goal.returns-in_err-first-clause-outcome
 returns-in_err-first-clause-outcome g c =
     let out = err_from_is_err_and c.from_residual.result c.from_residual.ensures.1 in
-    rw (out.1, out.2) (c.in_err-first.ensures.outcome _ _)
+    rw (out.1, out.2) (c.in_err-first.ensures.outcome c.args.until_done _ _)
 
 pub returns-in_err-taken-clause-outcome : goal.returns-in_err-taken-clause-outcome
 returns-in_err-taken-clause-outcome g c =
     let out = err_from_is_err_and c.from_residual-in_err-taken.result c.from_residual-in_err-taken.ensures.1 in
-    rw (out.1, out.2) (breaks_later c.in_err-taken.field-0.0 _ _ _ (c.in_ok-first.ensures.outcome c.args.until_done _ _).takes (c.in_err-taken.ensures.outcome _))
+    rw (out.1, out.2) (fails_later c.args.until_done c.in_err-taken.field-0.0 _ _ _ _ (c.in_ok-first.ensures.outcome c.args.until_done _ _) (c.in_err-taken.ensures.outcome _))
 
 pub returns-in_err-pulled-clause-outcome : goal.returns-in_err-pulled-clause-outcome
 returns-in_err-pulled-clause-outcome g c =
     let out = err_from_is_err_and c.from_residual-in_err-pulled.result c.from_residual-in_err-pulled.ensures.1 in
     rw (out.1, out.2)
-    (breaks_later c.in_err-pulled.field-0.0 _ _ _ (does_trans _ _ _ _ _ _ (c.in_ok-first.ensures.outcome c.args.until_done _ _) (c.in_ok-taken.ensures.outcome _)).takes c.in_err-pulled.ensures.outcome)
+    (fails_later c.args.until_done c.in_err-pulled.field-0.0 _ _ _ _ (does_trans _ _ _ _ _ _ (c.in_ok-first.ensures.outcome c.args.until_done _ _) (c.in_ok-taken.ensures.outcome _)) c.in_err-pulled.ensures.outcome)
 
 pub returns-in_err-last-clause-outcome : goal.returns-in_err-last-clause-outcome
 returns-in_err-last-clause-outcome g c =
     let out = err_from_is_err_and c.from_residual-in_err-last.result c.from_residual-in_err-last.ensures.1 in
     rw (out.1, out.2)
-    (breaks_later c.in_err-last.field-0.0 _ _ _
-    (does_trans _ _ _ _ _ _ (does_trans _ _ _ _ _ _ (c.in_ok-first.ensures.outcome c.args.until_done _ _) (c.in_ok-taken.ensures.outcome _)) c.in_ok-pulled.ensures.outcome).takes (c.in_err-last.ensures.outcome _ _))
+    (fails_later c.args.until_done c.in_err-last.field-0.0 _ _ _ _
+    (does_trans _ _ _ _ _ _ (does_trans _ _ _ _ _ _ (c.in_ok-first.ensures.outcome c.args.until_done _ _) (c.in_ok-taken.ensures.outcome _)) c.in_ok-pulled.ensures.outcome) (c.in_err-last.ensures.outcome c.args.until_done _ _))
 
 pub returns-clause-outcome : goal.returns-clause-outcome
 returns-clause-outcome g c =
@@ -50,7 +50,7 @@ returns-in_err-pulled-clause-pulls g c =
 pub returns-in_err-last-clause-pulls : goal.returns-in_err-last-clause-pulls
 returns-in_err-last-clause-pulls g c =
     let input = g.I.Input.tells c.pull_and_take.new.input in
-    let broken = (c.in_err-last.ensures.outcome c.pull_and_take.new.worker input).taken in
+    let broken = (c.in_err-last.ensures.outcome c.args.until_done c.pull_and_take.new.worker input).breaks.taken in
     pulls_within _ _ (scene c.pull_and_take.new.self c.pull_and_take.new.worker (both input (g.O.Output.tells c.pull_and_take.new.output))) _
     (does_trans _ _ _ _ _ _ (c.in_ok-first.ensures.outcome c.args.until_done _ _) (c.in_ok-taken.ensures.outcome _)).takes refl c.pull_and_take.ensures.pulls broken.onward refl broken.sent broken.pushed broken.waited
 

@@ -4,7 +4,7 @@ use Rattle.std.proofs.KnownBytes.{Consumes-nil}
 use Rattle.std.proofs.lemmas.Result.{err_from_is_err_and}
 use Rattle.mc_conn.specs.ConnFault.{InputFailed, OutOfMemory}
 use Rattle.mc_stream.specs.Event.{ends, failures, has_ended, moved}
-use Rattle.mc_conn.proofs.Breakings.{breaks_pulling}
+use Rattle.mc_conn.proofs.Breakings.{fails_pulling}
 use Rattle.mc_read.specs.Administering.{lines_spoken}
 use Rattle.mc_read.specs.Pulling.{IsFedByPull}
 use Rattle.mc_conn.proofs.Readings.{read_by, read_fed_at}
@@ -15,8 +15,8 @@ pub returns-in_err-pull-clause-outcome : goal.returns-in_err-pull-clause-outcome
 returns-in_err-pull-clause-outcome g c =
     let out = err_from_is_err_and c.from_residual.result c.from_residual.ensures.1 in
     let before = g.I.Input.tells c.args.input.now in
-    rw (out.1, out.2, c.in_err-pull.ensures.memory, c.in_err-pull.ensures.unchanged.1) (λ worker output.
-    breaks_pulling OutOfMemory c.args.self.now _ worker before before output [] refl refl refl (sym (append-nil (moved before.events))) (Consumes-nil before.left) (refl, refl))
+    rw (out.1, out.2, c.in_err-pull.ensures.memory, c.in_err-pull.ensures.unchanged.1) (λ until worker output.
+    fails_pulling until OutOfMemory c.args.self.now _ worker before before output [] refl refl refl (sym (append-nil (moved before.events))) (Consumes-nil before.left) (refl, refl))
 
 pub returns-in-Bytes-clause-outcome : goal.returns-in-Bytes-clause-outcome
 returns-in-Bytes-clause-outcome g c until worker output =
@@ -59,6 +59,6 @@ returns-in-Ended-clause-outcome g c until worker output =
     (inr (ap has_ended said.event, said.no_more refl)) refl until refl
 
 pub returns-in-Failed-clause-outcome : goal.returns-in-Failed-clause-outcome
-returns-in-Failed-clause-outcome g c worker output =
+returns-in-Failed-clause-outcome g c until worker output =
     let said = (subst (λ pull. IsFedByPull (g.I.Input.tells c.args.input.now) (g.I.Input.tells c.pull.new.input) c.clamp.result c.args.self.now.reader c.pull.new.self pull) c.in-Failed.is c.in_ok-pull.ensures.pulls).is in
-    breaks_pulling InputFailed c.args.self.now _ worker _ _ output [] refl refl refl (ap moved said.event ∙ sym (append-nil _)) said.rest (ap failures said.event, refl)
+    fails_pulling until InputFailed c.args.self.now _ worker _ _ output [] refl refl refl (ap moved said.event ∙ sym (append-nil _)) said.rest (ap failures said.event, refl)

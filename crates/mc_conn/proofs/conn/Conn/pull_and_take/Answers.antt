@@ -3,7 +3,7 @@ use Rattle.std.proofs.lemmas.Result.{err_from_is_err_and}
 use Rattle.mc_stream.specs.Stream.{both}
 use Rattle.mc_conn.specs.Turn.{queue_of, scene}
 use Rattle.uc_worker.specs.contracts.laws.WorkerGoesOn.TheImpl.{continues_self-value}
-use Rattle.mc_conn.proofs.Breakings.{breaks_later}
+use Rattle.mc_conn.proofs.Breakings.{fails_later}
 use Rattle.mc_conn.proofs.Endings.{none_held, pulls_once, still_on, within_bound}
 use Rattle.mc_conn.proofs.Takings.{does_nothing, does_trans}
 use Rattle.mc_conn.proofs.Countings.{tallies_same, tallies_self, tallies_within}
@@ -12,7 +12,7 @@ use Rattle.mc_conn.proofs.conn.Conn.pull_and_take.Goals as goal
 pub returns-in_err-pushed-clause-outcome : goal.returns-in_err-pushed-clause-outcome
 returns-in_err-pushed-clause-outcome g c =
     let out = err_from_is_err_and c.from_residual.result c.from_residual.ensures.1 in
-    rw (out.1, out.2) (c.in_err-pushed.ensures.outcome _ _)
+    rw (out.1, out.2) (c.in_err-pushed.ensures.outcome c.args.until_done _ _)
 
 pub returns-then-is_some-len-clause-outcome : goal.returns-then-is_some-len-clause-outcome
 returns-then-is_some-len-clause-outcome g c = does_nothing _ _
@@ -20,13 +20,13 @@ returns-then-is_some-len-clause-outcome g c = does_nothing _ _
 pub returns-in_err-pulled-clause-outcome : goal.returns-in_err-pulled-clause-outcome
 returns-in_err-pulled-clause-outcome g c =
     let out = err_from_is_err_and c.from_residual-in_err-pulled.result c.from_residual-in_err-pulled.ensures.1 in
-    rw (out.1, out.2) (breaks_later c.in_err-pulled.field-0.0 _ _ _ (c.in_ok-pushed.ensures.outcome c.args.until_done _ _).takes (c.in_err-pulled.ensures.outcome _ _))
+    rw (out.1, out.2) (fails_later c.args.until_done c.in_err-pulled.field-0.0 _ _ _ _ (c.in_ok-pushed.ensures.outcome c.args.until_done _ _) (c.in_err-pulled.ensures.outcome c.args.until_done _ _))
 
 pub returns-in_err-taken-clause-outcome : goal.returns-in_err-taken-clause-outcome
 returns-in_err-taken-clause-outcome g c =
     let out = err_from_is_err_and c.from_residual-in_err-taken.result c.from_residual-in_err-taken.ensures.1 in
     rw (out.1, out.2)
-    (breaks_later c.in_err-taken.field-0.0 _ _ _ (does_trans _ _ _ _ _ _ (c.in_ok-pushed.ensures.outcome c.args.until_done _ _) (c.in_ok-pulled.ensures.outcome c.args.until_done _ _)).takes (c.in_err-taken.ensures.outcome _))
+    (fails_later c.args.until_done c.in_err-taken.field-0.0 _ _ _ _ (does_trans _ _ _ _ _ _ (c.in_ok-pushed.ensures.outcome c.args.until_done _ _) (c.in_ok-pulled.ensures.outcome c.args.until_done _ _)) (c.in_err-taken.ensures.outcome _))
 
 pub returns-clause-outcome : goal.returns-clause-outcome
 returns-clause-outcome g c =

@@ -3,7 +3,7 @@ use Rattle.std.proofs.lemmas.Result.{err_from_is_err_and}
 use Rattle.mc_conn.specs.declared.conn.Conn.{Conn}
 use Rattle.mc_conn.specs.Parts.{KeepsStreams}
 use Rattle.uc_worker.specs.declared.worker.Worker.{Worker}
-use Rattle.mc_conn.proofs.Breakings.{breaks_later}
+use Rattle.mc_conn.proofs.Breakings.{fails_later}
 use Rattle.uc_worker.specs.contracts.laws.WorkerGoesOn.TheImpl.{continues_self-value, continues_through-value}
 use Rattle.mc_conn.proofs.Countings.{tallies_self, tallies_trans}
 use Rattle.mc_conn.proofs.Takings.{did_not, did_then, does_nothing}
@@ -27,7 +27,7 @@ loop-did-init g c = record {
 pub returns-in_err-take_one-clause-outcome : goal.returns-in_err-take_one-clause-outcome
 returns-in_err-take_one-clause-outcome g c =
     let out = err_from_is_err_and c.from_residual.result c.from_residual.ensures.1 in
-    rw (out.1, out.2) (λ streams. breaks_later c.in_err-take_one.field-0.0 _ _ _ (c.loop-did.invariant.does streams).takes (c.in_err-take_one.ensures.outcome streams))
+    rw (out.1, out.2) (λ streams. fails_later c.args.until_done c.in_err-take_one.field-0.0 _ _ _ _ (c.loop-did.invariant.does streams) (c.in_err-take_one.ensures.outcome streams))
 
 pub loop-did-smaller : goal.loop-did-smaller
 loop-did-smaller g c = c.in_ok-take_one.ensures.fewer c.if-branch.true

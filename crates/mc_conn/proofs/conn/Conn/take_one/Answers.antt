@@ -5,7 +5,7 @@ use Rattle.mc_conn.specs.Held.{most_held}
 use Rattle.mc_conn.specs.Parts.{IsLeft}
 use Rattle.mc_conn.specs.Turn.{holding_of, queue_of, scene}
 use Rattle.mc_conn.specs.declared.conn.TheConstants.{QUEUE_BYTES}
-use Rattle.mc_conn.proofs.Breakings.{breaks_later, breaks_looking}
+use Rattle.mc_conn.proofs.Breakings.{fails_later, fails_looking}
 use Rattle.mc_conn.proofs.Outcomes.{if_ok_map, match_map}
 use Rattle.mc_conn.proofs.Readings.{fewer_after}
 use Rattle.mc_conn.proofs.Takings.{does_looked, does_trans}
@@ -15,7 +15,7 @@ use Rattle.mc_conn.proofs.conn.Conn.take_one.Goals as goal
 pub returns-in_err-look-clause-outcome : goal.returns-in_err-look-clause-outcome
 returns-in_err-look-clause-outcome g c =
     let out = err_from_is_err_and c.from_residual.result c.from_residual.ensures.1 in
-    rw (out.1, out.2, c.in_err-look.ensures.memory) (λ streams. breaks_looking c.args.self.now c.look.new.self _ streams c.look.ensures.looks)
+    rw (out.1, out.2, c.in_err-look.ensures.memory) (λ streams. fails_looking c.args.until_done c.args.self.now c.look.new.self _ streams c.look.ensures.looks)
 
 pub returns-then-len-gt-QUEUE_BYTES-clause-outcome : goal.returns-then-len-gt-QUEUE_BYTES-clause-outcome
 returns-then-len-gt-QUEUE_BYTES-clause-outcome g c streams =
@@ -27,7 +27,7 @@ returns-clause-outcome g c =
     let few : length (queue_of c.look.new.self) ≤ QUEUE_BYTES = omega (arith, c.if-len-gt-QUEUE_BYTES.false, c.len.ensures) in
     let looked = λ (streams : Streams). does_looked c.args.until_done c.args.self.now c.look.new.self c.args.worker.now streams c.in_ok-look.ensures.read c.look.ensures.looks in
     match_map c.answer_waiting.result _ _ _ _ (λ did does streams. does_trans _ _ (scene c.look.new.self _ streams) _ _ did (looked streams) (does c.args.until_done streams room few))
-    (λ fault breaks streams. breaks_later fault _ (scene c.look.new.self _ streams) _ (looked streams).takes (breaks streams)) c.answer_waiting.ensures.outcome
+    (λ fault fails streams. fails_later c.args.until_done fault _ (scene c.look.new.self _ streams) _ _ (looked streams) (fails c.args.until_done streams room)) c.answer_waiting.ensures.outcome
 
 pub returns-clause-fewer : goal.returns-clause-fewer
 returns-clause-fewer g c =

@@ -4,7 +4,7 @@ use Rattle.mc_conn.proofs.conn.Conn.turn.Goals as goal
 
 pub returns-clause-outcome : goal.returns-clause-outcome
 returns-clause-outcome g c going =
-    match_map c.turn_or_close.result _ _ _ _ (λ state round. (turns _ _ state round).0) (λ fault stops. stops) (c.turn_or_close.ensures.outcome going)
+    match_map c.turn_or_close.result _ _ _ _ (λ state round. (turns _ _ state round).0) (λ fault round. round.stops) (c.turn_or_close.ensures.outcome going)
 
 pub returns-clause-takes_all : goal.returns-clause-takes_all
 returns-clause-takes_all g c =
