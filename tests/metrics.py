@@ -2,10 +2,10 @@
 """Tests the metrics of wfmc, as built, over sockets on loopback: metrics.py [BINARY].
 
 What a scrape shows is held against what the clients know: items, bytes, quotas, connections, commands by kind, hits, misses and refusals of
-each tenant, and which log is served. Then scrapes as fast as they come while clients are answered as ever, more connections than there are
-places for, requests that are slow, huge or none, and one that does nothing, which is closed after ten seconds. And the words: an address that
-is taken, a tenant named metrics. A live scrape and the rules of etc/ are held against promtool (Debian's package prometheus; PROMTOOL names
-another) where it is installed, and it is said where it isn't.
+each of three tenants, which log is served, how many bytes it keeps, and whether a worker lags. Then scrapes as fast as they come while
+clients are answered as ever, more connections than there are places for, requests that are slow, huge or none, and one that does nothing,
+which is closed after ten seconds. And the words: an address that is taken, a tenant named metrics. A live scrape and the rules of etc/ are
+held against promtool (Debian's package prometheus; PROMTOOL names another) where it is installed, and it is said where it isn't.
 Prints a line for each failure; the last line is 'N passed, M failed'.
 """
 
@@ -122,29 +122,43 @@ def tables(tenant, items, size, quotas, connections):
     return {of(name, tenant): value for name, value in numbers.items()}
 
 
+def lags_of(shown, workers):
+    return [shown[f'wfmc_worker_lag_places{{worker="{worker}"}}'] for worker in range(workers)]
+
+
 def check_numbers():
-    tenants = {"shop": (100, 10_000), "b-2_x": (20, 5_000)}
+    tenants = {"shop": (100, 10_000), "b-2_x": (20, 5_000), "third": (30, 7_000)}
     with Server(PROGRAM, ("--workers", "3", "--places", "1000", *ADMIN, *METRICS), tenants) as server:
-        check("the listeners in their order", list(server.ports) == ["shop", "b-2_x", "admin", "metrics"] and server.is_ready)
-        awaits(server, "nothing yet", {**tables("shop", 0, 0, (100, 10_000), 0), **tables("b-2_x", 0, 0, (20, 5_000), 0), "wfmc_log_used_places": 0})
+        check("the listeners in their order", list(server.ports) == [*tenants, "admin", "metrics"] and server.is_ready)
+        nothing = {name: value for tenant, quotas in tenants.items() for name, value in tables(tenant, 0, 0, quotas, 0).items()}
+        awaits(server, "nothing yet", {**nothing, "wfmc_log_used_places": 0, "wfmc_log_bytes": 0})
         shops = [server.client("shop") for _ in range(5)]
         other = server.client("b-2_x")
+        thirds = [server.client("third") for _ in range(2)]
         for number, client in enumerate(shops * 4):
             check("a set", client.line(f"set key{number:02} 0 0 7\r\n1234567\r\n".encode()) == "STORED")
         check("another's set", other.line(b"set k 0 0 3\r\nabc\r\n") == "STORED")
-        wanted = {**tables("shop", 20, 20 * 12, (100, 10_000), 5), **tables("b-2_x", 1, 4, (20, 5_000), 1)}
-        shown = awaits(server, "what the clients know", {**wanted, "wfmc_log_used_places": 21, "wfmc_log_places": 1000, "wfmc_log_generation": 1})
-        lags = [shown[f'wfmc_worker_lag_places{{worker="{worker}"}}'] for worker in range(3)]
-        check("the lags", min(lags) == 0 and max(lags) <= 21, str(lags))
-        check("the workers' connections", sum(shown[f'wfmc_worker_connections{{worker="{worker}"}}'] for worker in range(3)) == 6, str(shown))
+        for number, client in enumerate(thirds * 2):
+            check("a third's set", client.line(f"set t{number} 0 0 5\r\n12345\r\n".encode()) == "STORED")
+        third = tables("third", 4, 4 * 7, (30, 7_000), 2)
+        wanted = {**tables("shop", 20, 20 * 12, (100, 10_000), 5), **tables("b-2_x", 1, 4, (20, 5_000), 1), **third}
+        # Keys and data, and 64 more for each command, as --log-bytes counts them.
+        kept = 20 * 12 + 4 + 4 * 7 + 25 * 64
+        log = {"wfmc_log_used_places": 25, "wfmc_log_bytes": kept, "wfmc_log_places": 1000, "wfmc_log_generation": 1}
+        shown = awaits(server, "what the clients know", {**wanted, **log})
+        lags = lags_of(shown, 3)
+        check("the lags", min(lags) == 0 and max(lags) <= 25, str(lags))
+        check("the workers' connections", sum(shown[f'wfmc_worker_connections{{worker="{worker}"}}'] for worker in range(3)) == 8, str(shown))
         check("the resident memory", 1 << 20 < shown["process_resident_memory_bytes"] < 1 << 32)
         with server.client("admin") as chief:
             check("an administrator", chief.line(b"limit b-2_x 7 99\r\n") == "OK")
             check("a delete", shops[0].line(b"delete key00\r\n") == "DELETED")
-            awaits(server, "other quotas", {**tables("shop", 19, 19 * 12, (100, 10_000), 5), **tables("b-2_x", 1, 4, (7, 99), 1)})
+            wanted = {**tables("shop", 19, 19 * 12, (100, 10_000), 5), **tables("b-2_x", 1, 4, (7, 99), 1), **third}
+            # A delete keeps its key and 64 bytes more, and a limit none.
+            awaits(server, "other quotas", {**wanted, "wfmc_log_used_places": 27, "wfmc_log_bytes": kept + 5 + 64})
         for client in shops:
             client.close()
-        awaits(server, "the connections that are left", {of("connections", "shop"): 0, of("connections", "b-2_x"): 1})
+        awaits(server, "the connections that are left", {of("connections", "shop"): 0, of("connections", "b-2_x"): 1, of("connections", "third"): 2})
         scraper = Scraper(server)
         status, fields, body = scraper.get("/")
         check("the page", status.endswith("200 OK") and fields["content-type"].startswith("text/html") and "<th>shop<td>19<td>100<td>228" in body, body)
@@ -152,8 +166,22 @@ def check_numbers():
         scraper.send(b"POST /metrics HTTP/1.1\r\nHost: wfmc\r\nContent-Length: 0\r\n\r\n")
         check("another method", scraper.reply()[0] == "HTTP/1.1 405 Method Not Allowed")
         text = scraper.get()[2]
-        check("each kind of commands and refusals", text.count("wfmc_tenant_commands_total{") == 2 * 12 and text.count("wfmc_tenant_refusals_total{") == 2 * 11)
+        check("each kind of commands and refusals", text.count("wfmc_tenant_commands_total{") == 3 * 12 and text.count("wfmc_tenant_refusals_total{") == 3 * 11)
         check_by_promtool(text)
+
+
+def check_lag():
+    """A few commands don't wake the worker that has no command of its own: it lags until it has one."""
+    with Server(PROGRAM, ("--workers", "2", *METRICS)) as server:
+        busy, idle = server.client("a", 0), server.client("a", 1)
+        check("an idle worker's client", idle.line(b"version\r\n") == "VERSION 1.0.0")
+        check("a busy worker's sets", {busy.line(b"set k 0 0 1\r\nx\r\n") for _ in range(50)} == {"STORED"})
+        lags = lags_of(awaits(server, "what the busy worker has done", {"wfmc_log_used_places": 50, "wfmc_log_bytes": 50 * 66}), 2)
+        check("a worker that lags", min(lags) == 0 and 0 < max(lags) <= 50, str(lags))
+        check("an idle worker's get", idle.ask(b"get k\r\n", b"END\r\n") == b"VALUE k 0 1\r\nx\r\nEND\r\n")
+        # A get keeps a byte more for each of its keys.
+        lags = lags_of(awaits(server, "what both have done", {"wfmc_log_used_places": 51, "wfmc_log_bytes": 50 * 66 + 66}), 2)
+        check("a worker that has caught up", min(lags) == 0 and max(lags) <= 1, str(lags))
 
 
 def check_by_promtool(text):
@@ -211,22 +239,22 @@ def tallies(tenant, rounds):
 
 
 def check_tallies():
-    """Commands, hits, misses and refusals of two tenants, over two workers and over logs that follow one another."""
+    """Commands, hits, misses and refusals of three tenants, over two workers and over logs that follow one another."""
     sent, wanted = ("".join(row[at] for row in COUNTED).encode() for at in (0, 1))
-    tenants = {"a": (2, 1000), "b": (2, 1000)}
+    tenants = {"a": (2, 1000), "b": (2, 1000), "c": (2, 1000)}
     with Server(PROGRAM, ("--workers", "2", "--places", "60", "--generations", "0", *METRICS), tenants) as server:
-        awaits(server, "no request yet", {**tallies("a", 0), **tallies("b", 0)})
-        clients = [server.client(tenant, worker) for tenant in ("a", "a", "b") for worker in (0, 1)]
+        awaits(server, "no request yet", {**tallies("a", 0), **tallies("b", 0), **tallies("c", 0)})
+        clients = [server.client(tenant, worker) for tenant in ("a", "a", "b") for worker in (0, 1)] + [server.client("c", 0)]
         for number, client in enumerate(clients * 3):
             reply = client.ask(sent, wanted[-30:])
             check("the replies that are counted", reply == wanted, f"{number}: {reply}")
-        shown = awaits(server, "tallies that the clients know", {**tallies("a", 12), **tallies("b", 6)})
+        shown = awaits(server, "tallies that the clients know", {**tallies("a", 12), **tallies("b", 6), **tallies("c", 3)})
         check("over several logs", shown["wfmc_log_generation"] >= 4, str(shown["wfmc_log_generation"]))
         for client in clients:
             client.close()
         with server.client("b", 1) as client:
             check("another client's replies", client.ask(sent, wanted[-30:]) == wanted)
-        awaits(server, "tallies after connections have ended", {**tallies("a", 12), **tallies("b", 7), of("connections", "a"): 0})
+        awaits(server, "tallies after connections have ended", {**tallies("a", 12), **tallies("b", 7), **tallies("c", 3), of("connections", "a"): 0})
 
 
 def starve(client):
@@ -390,6 +418,7 @@ def check_words():
 
 check_words()
 check_numbers()
+check_lag()
 check_tallies()
 check_starved()
 check_full_speed()

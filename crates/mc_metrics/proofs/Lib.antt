@@ -1,2 +1,3 @@
+pub mod AtNumbers
 pub mod Furthest
 pub mod LabelLists
