@@ -20,7 +20,7 @@ use Rattle.mc_conn.specs.Held.{HoldsOn, IsRead}
 use Rattle.mc_conn.specs.Onward.{own_sighting}
 use Rattle.uc_worker.specs.Going.{Continues}
 use Rattle.mc_conn.specs.Owed.{Demand, Logs, Says, count_logged, demand_of, is_logged, mark_of}
-use Rattle.mc_conn.specs.Parts.{Does, Fails, IsTakeFault, LooksForNext, MayAnnounceFor, Refuses}
+use Rattle.mc_conn.specs.Parts.{BreaksFor, Does, IsTakeFault, LooksForNext, MayAnnounceFor, Refuses}
 use Rattle.mc_conn.specs.Turn.{NeitherFails, Scene, Taken, Takes, holding_of, queue_of, scene}
 use Rattle.mc_conn.proofs.Owings.{same_sighting}
 use Rattle.uc_worker.specs.contracts.laws.WorkerGoesOn.TheImpl.{continues_through-value}
@@ -91,7 +91,7 @@ breaks_in_time_later fault a b c one two first second =
     ))
     second
 
-pub fails_later : (until : Bool) (fault : Fault) (a b c : Scene) (did : Bool) → Does until a b did → Fails until b c fault → Fails until a c fault
+pub fails_later : (until : Bool) (fault : Fault) (a b c : Scene) (did : Bool) → Does until a b did → BreaksFor until b c fault → BreaksFor until a c fault
 fails_later until fault a b c did one two = record {
   breaks = breaks_later fault a b c one.takes two.breaks;
   in_time = λ is. breaks_in_time_later fault a b c one.takes two.breaks (one.in_time is) (two.in_time is);
@@ -114,7 +114,7 @@ breaks_here cause old new worker before after taken none counts = record {
 
 fails_here : (until : Bool) (cause : ConnFault) (old new : Conn) (worker : Worker) (before after : Streams) →
     (taken : Taken (scene old worker before) (scene new worker after) (mark_of worker)) → taken.requests ≡ [] → CountsFailures cause before after →
-    Fails until (scene old worker before) (scene new worker after) (fault_of cause)
+    BreaksFor until (scene old worker before) (scene new worker after) (fault_of cause)
 unfolding breaks_here
 fails_here until cause old new worker before after taken none counts = record {
   breaks = breaks_here cause old new worker before after taken none counts;
@@ -124,7 +124,7 @@ fails_here until cause old new worker before after taken none counts = record {
 -- while a front of the queue was pushed
 pub fails_pushing : (until : Bool) (old new : Conn) (worker : Worker) (input : Inflow) (before after : Outflow) (count : ℕ) → queue_of new ≡ drop count (queue_of old) → new.role ≡ old.role → new.past ≡ old.past →
     Pushes before after (take count (queue_of old)) → FailsOnce before after → waits after.events ≡ waits before.events →
-    Fails until (scene old worker (both input before)) (scene new worker (both input after)) Output
+    BreaksFor until (scene old worker (both input before)) (scene new worker (both input after)) Output
 unfolding taken_none
 fails_pushing until old new worker input before after count left role past went failed waited =
     fails_here until OutputFailed old new worker (both input before) (both input after)
@@ -135,14 +135,14 @@ fails_pushing until old new worker input before after count left role past went 
 -- while bytes were pulled, or kept
 pub fails_pulling : (until : Bool) (cause : ConnFault) (old new : Conn) (worker : Worker) (before after : Inflow) (output : Outflow) (piece : List ℕ) → queue_of new ≡ queue_of old → new.role ≡ old.role → new.past ≡ old.past →
     moved after.events ≡ moved before.events ++ piece → Consumes before.left after.left piece → CountsFailures cause (both before output) (both after output) →
-    Fails until (scene old worker (both before output)) (scene new worker (both after output)) (fault_of cause)
+    BreaksFor until (scene old worker (both before output)) (scene new worker (both after output)) (fault_of cause)
 unfolding taken_none
 fails_pulling until cause old new worker before after output piece queue role past pulled consumed counts =
     fails_here until cause old new worker (both before output) (both after output)
     (taken_none old new worker (both before output) (both after output) piece [] pulled consumed (sym (append-nil (moved output.events))) role past queue (omega arith)) refl counts
 
 -- while a request was looked for
-pub fails_looking : (until : Bool) (old new : Conn) (worker : Worker) (streams : Streams) → LooksForNext old new → Fails until (scene old worker streams) (scene new worker streams) Memory
+pub fails_looking : (until : Bool) (old new : Conn) (worker : Worker) (streams : Streams) → LooksForNext old new → BreaksFor until (scene old worker streams) (scene new worker streams) Memory
 unfolding taken_still taken_none
 fails_looking until old new worker streams looks =
     fails_here until OutOfMemory old new worker streams streams (taken_still old new worker streams looks.role looks.past looks.queue) refl (refl, refl)
@@ -219,5 +219,5 @@ module _ (fault : Fault) (old new : Conn) (worker later : Worker) (streams : Str
   taking_in_time false is room = inl (ap (λ logged. cond logged 1 0 + 0) is)
 
   pub fails_taking : (until : Bool) → (until ≡ true → is_logged (demand_of old.role request) ≡ true → ¬ (IsClosing worker)) →
-      Fails until (scene old worker streams) (scene new later streams) fault
+      BreaksFor until (scene old worker streams) (scene new later streams) fault
   fails_taking until room = record { breaks = taking; in_time = λ is. taking_in_time (is_logged (demand_of old.role request)) refl (room is) }

@@ -35,7 +35,7 @@ pub record Does (until : Bool) (before after : Scene) (did : Bool) : Type 0 wher
   pub within : TakesWithin takes
 
 -- a fault in a part of a turn; whether commands are left to the next log is the first argument
-pub record Fails (until : Bool) (before after : Scene) (fault : Fault) : Type 0 where
+pub record BreaksFor (until : Bool) (before after : Scene) (fault : Fault) : Type 0 where
   pub breaks : Breaks before after fault
   pub in_time : until ≡ true → BreaksInTime breaks
 

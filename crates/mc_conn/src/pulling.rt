@@ -5,7 +5,7 @@ ghost use Rattle.mc_stream.specs.Stream.{Outflow, both};
 ghost use Rattle.uc_worker.specs.declared.worker.Worker.{Worker};
 ghost use Rattle.mc_conn.specs.declared.conn.TheConstants.{QUEUE_BYTES};
 ghost use Rattle.mc_conn.specs.Ending.{Pulls, PullsFew, PullsOnce};
-ghost use Rattle.mc_conn.specs.Parts.{Does, Fails, IsHeldBehind, IsLeft};
+ghost use Rattle.mc_conn.specs.Parts.{BreaksFor, Does, IsHeldBehind, IsLeft};
 ghost use Rattle.mc_conn.specs.Owed.{FitsLog};
 ghost use Rattle.mc_conn.specs.Tallying.{HasCounted};
 ghost use Rattle.mc_conn.specs.Turn.{queue_of, scene};
@@ -29,7 +29,7 @@ impl Conn {
             Does until (scene self.old worker (both (I.tells input.old) output))
             (scene self.new worker (both (I.tells input.new) output)) did)
             (λ fault. (until : Bool) (worker : Worker) (output : Outflow) →
-            Fails until (scene self.old worker (both (I.tells input.old) output))
+            BreaksFor until (scene self.old worker (both (I.tells input.old) output))
             (scene self.new worker (both (I.tells input.new) output)) fault) }
         ensures stuck { IfOk result (λ did. did ≡ false →
             (waits (I.tells input.new).events ≡ waits (I.tells input.old).events + 1)
@@ -71,7 +71,7 @@ impl Conn {
             (Does until_done
             (scene self.old worker.old (both (I.tells input.old) (O.tells output.old)))
             (scene self.new worker.new (both (I.tells input.new) (O.tells output.new))))
-            (Fails until_done
+            (BreaksFor until_done
             (scene self.old worker.old (both (I.tells input.old) (O.tells output.old)))
             (scene self.new worker.new (both (I.tells input.new) (O.tells output.new)))) }
         ensures held { OnOk result (IsHeldBehind until_done self.new worker.new) }

@@ -4,7 +4,7 @@ ghost use Rattle.mc_stream.specs.Event.{waits};
 ghost use Rattle.mc_stream.specs.Pushing.{Pushes, StopsAs};
 ghost use Rattle.mc_stream.specs.Stream.{Inflow, both};
 ghost use Rattle.uc_worker.specs.declared.worker.Worker.{Worker};
-ghost use Rattle.mc_conn.specs.Parts.{Does, Fails, IsSameBesideQueue};
+ghost use Rattle.mc_conn.specs.Parts.{BreaksFor, Does, IsSameBesideQueue};
 ghost use Rattle.mc_conn.specs.Turn.{queue_of, scene};
 
 use crate::conn::Conn;
@@ -48,7 +48,7 @@ impl Conn {
             Does until (scene self.old worker (both input (O.tells output.old)))
             (scene self.new worker (both input (O.tells output.new))) did)
             (λ fault. (until : Bool) (worker : Worker) (input : Inflow) →
-            Fails until (scene self.old worker (both input (O.tells output.old)))
+            BreaksFor until (scene self.old worker (both input (O.tells output.old)))
             (scene self.new worker (both input (O.tells output.new))) fault) }
         ensures left { OnOk result
             ((queue_of self.new ≡ [])

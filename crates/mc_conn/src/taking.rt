@@ -5,7 +5,7 @@ ghost use Rattle.mc_model.specs.declared.fault.Fault.TheVariants as faults;
 ghost use Rattle.mc_stream.specs.Stream.{Streams};
 ghost use Rattle.mc_conn.specs.Ending.{AwaitsLog};
 ghost use Rattle.mc_conn.specs.Held.{HoldsNone, IsRead, most_held};
-ghost use Rattle.mc_conn.specs.Parts.{Does, Fails, IsHeldBehind, IsLeft, KeepsStreams, LooksForNext};
+ghost use Rattle.mc_conn.specs.Parts.{BreaksFor, Does, IsHeldBehind, IsLeft, KeepsStreams, LooksForNext};
 ghost use Rattle.mc_conn.specs.Owed.{FitsLog, demand_of, is_logged};
 ghost use Rattle.mc_conn.specs.Tallying.{HasCounted};
 ghost use Rattle.mc_conn.specs.Turn.{holding_of, queue_of, scene};
@@ -80,7 +80,7 @@ impl Conn {
             Does until (scene self.old worker.old streams)
             (scene self.new worker.new streams) did)
             (λ fault. (until : Bool) (streams : Streams) → ¬ (IsLeft until self.old worker.old) →
-            Fails until (scene self.old worker.old streams) (scene self.new worker.new streams)
+            BreaksFor until (scene self.old worker.old streams) (scene self.new worker.new streams)
             fault) }
         ensures fewer { IfOk result (λ did. MatchBool did
             (most_held (holding_of self.new) < most_held (holding_of self.old))
@@ -115,7 +115,7 @@ impl Conn {
             Does until_done (scene self.old worker.old streams)
             (scene self.new worker.new streams) did)
             (λ fault. (streams : Streams) →
-            Fails until_done (scene self.old worker.old streams)
+            BreaksFor until_done (scene self.old worker.old streams)
             (scene self.new worker.new streams) fault) }
         ensures fewer { IfOk result
             (λ did. did ≡ true →
@@ -150,7 +150,7 @@ impl Conn {
             Does until_done (scene self.old worker.old streams)
             (scene self.new worker.new streams) did)
             (λ fault. (streams : Streams) →
-            Fails until_done (scene self.old worker.old streams)
+            BreaksFor until_done (scene self.old worker.old streams)
             (scene self.new worker.new streams) fault) }
         ensures held { OnOk result (IsHeldBehind until_done self.new worker.new) }
         ensures keeps { KeepsStreams self.old self.new worker.old worker.new }

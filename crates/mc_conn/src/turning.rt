@@ -4,7 +4,7 @@ ghost use Rattle.mc_counters.specs.Tallied.{CountedRequest, IsTallyOf};
 ghost use Rattle.mc_stream.specs.Stream.{both};
 ghost use Rattle.mc_conn.specs.ConnFault.{TellsStarved};
 ghost use Rattle.mc_conn.specs.Ending.{Pulls, PullsFew, Stops, StopsUntil, Turns, TurnsUntil};
-ghost use Rattle.mc_conn.specs.Parts.{Fails, GoesRound, StateIs, StopsRound, TellsOf};
+ghost use Rattle.mc_conn.specs.Parts.{BreaksFor, GoesRound, StateIs, StopsRound, TellsOf};
 ghost use Rattle.mc_conn.specs.Owed.{FitsLog};
 ghost use Rattle.mc_conn.specs.Tallying.{HasCounted, HasCountedTo, counted_at};
 ghost use Rattle.mc_conn.specs.Turn.{queue_of, scene};
@@ -72,7 +72,7 @@ impl Conn {
             (GoesRound until_done
             (scene self.old worker.old (both (I.tells input.old) (O.tells output.old)))
             (scene self.new worker.new (both (I.tells input.new) (O.tells output.new))))
-            (Fails until_done
+            (BreaksFor until_done
             (scene self.old worker.old (both (I.tells input.old) (O.tells output.old)))
             (scene self.new worker.new (both (I.tells input.new) (O.tells output.new)))) }
         ensures pulls { Pulls
