@@ -1,5 +1,5 @@
 -- Worker threads, what came back of them, and their event loops, place by place.
-use Rattle.std.proofs.Common.{◌≡◌, ◌⊎◌, ℕ, ◌<◌, suc, Bool, true, false, List, [], ◌∷◌, length, map, ap, refl, sym, subst, ◌++◌, arith, slice_index_or, take, drop, All, Bor, ◌∙◌, Ok, Result, IfOk, inl, inr, ⊎_elim}
+use Rattle.std.proofs.Common.{◌≡◌, ℕ, ◌<◌, suc, Bool, true, false, List, [], ◌∷◌, length, map, ap, refl, sym, subst, ◌++◌, arith, slice_index_or, take, drop, All, Bor, ◌∙◌, Ok, Result, IfOk, inl, inr, ⊎_elim}
 use Rattle.std.specs.List.{AllZip}
 use Rattle.std.proofs.Math.Seq.{take-append_seam}
 use Rattle.std.proofs.lemmas.List.Elements.{AllZip-get_or, All-cons, All-head, All-nil, All-tail, length_all_zip}
@@ -9,7 +9,7 @@ use Rattle.mc_connections.specs.Life.{WasAnswered}
 use Rattle.mc_connections.specs.Working.{IsEmpty, Standing, Works, standing}
 use Rattle.mc_connections.specs.declared.connections.Connections.{Connections}
 use Rattle.mc_net.specs.Returning.{HasAnswered, HasBeenAsked, HasServed, returned_of, returned_worker}
-use Rattle.mc_net.specs.Running.{EndsAs, EndsWith, HasBeenServedBy, HasRun, HasServedAt, HasWorked, HaveRun, HaveServedAt, IsEmptyLoop, IsFor, IsNewLoop, each_followed_by, event_loops_of, no_more, one_more, standing_at, workers_of}
+use Rattle.mc_net.specs.Running.{EndsWith, HasBeenServedBy, HasRun, HasServedAt, HasWorked, HaveRun, HaveServedAt, IsEmptyLoop, IsFor, IsNewLoop, each_followed_by, event_loops_of, no_more, one_more, standing_at, workers_of}
 use Rattle.mc_net.specs.declared.ended.Ended.{Ended}
 use Rattle.mc_net.specs.declared.ended.Ended.TheVariants.{Done, Full}
 use Rattle.mc_net.specs.declared.event_loop.EventLoop.{EventLoop}

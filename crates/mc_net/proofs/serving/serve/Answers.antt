@@ -1,4 +1,4 @@
-use Rattle.std.proofs.Common.{◌≡◌, ◌∙◌, List, ap, map, subst, sym}
+use Rattle.std.proofs.Common.{◌∙◌, List, ap, map, subst, sym}
 use Rattle.std.specs.List.{AllZip}
 use Rattle.mc_net.specs.Returning.{HasServed, returned_worker}
 use Rattle.mc_net.specs.declared.worker_thread.Returned.{Returned}

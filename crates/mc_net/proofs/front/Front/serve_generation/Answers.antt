@@ -1,5 +1,5 @@
-use Rattle.std.proofs.Common.{◌≡◌, ◌∙◌, Bool, List, Vec, true, false, All, ap, length, not, refl, subst, sym}
-use Rattle.mc_net.specs.Running.{HaveServedAt, IsEmptyLoop, IsFor}
+use Rattle.std.proofs.Common.{◌≡◌, ◌∙◌, Bool, Vec, false, All, ap, length, not, subst, sym}
+use Rattle.mc_net.specs.Running.{HaveServedAt, IsFor}
 use Rattle.mc_net.specs.declared.ended.Ended.{Ended}
 use Rattle.mc_net.specs.declared.ended.Ended.TheVariants.{Done}
 use Rattle.mc_net.specs.declared.event_loop.EventLoop.{EventLoop}
