@@ -1,14 +1,15 @@
 -- What serves cost, by what is charged for them.
-use Rattle.std.proofs.Common.{◌≡◌, ◌⊎◌, ◌∙◌, ◌+◌, ◌<◌, ◌≤◌, ℕ, Bool, true, false, List, [], ◌∷◌, ◌++◌, All, Option, ap, arith, cond, length, inl, inr, length-append, nat_eq, refl, subst, sym, ⊎_elim}
-use Rattle.std.proofs.lemmas.List.{length-set}
+use Rattle.std.proofs.Common.{◌≡◌, ◌⊎◌, ◌∙◌, ◌+◌, ◌-◌, ◌<◌, ◌≤◌, ℕ, Bool, true, false, List, [], ◌∷◌, ◌++◌, All, Option, ap, arith, cond, length, inl, inr, length-append, nat_eq, refl, subst, sym, ⊎_elim}
+use Rattle.std.proofs.lemmas.Bool.{cases_lt}
+use Rattle.std.proofs.lemmas.List.{get_or-set_same, length-set}
 use Rattle.std.proofs.lemmas.List.Elements.{All-cons, All-head, All-nil, All-tail}
 use Rattle.fair_queue.specs.Fair.{EventsLead, PassesOver, QueueEvent, WaitsForOneQuantumEach, charged_to, comes, gives}
-use Rattle.fair_queue.specs.Turns.{GivesFirst, IsPushed, QueueState}
+use Rattle.fair_queue.specs.Turns.{Charges, ComesAfter, FlowState, GivesFirst, IsFair, IsFirstReady, IsPushed, QueueState, TurnGoesOn, ends, flow_at, goes_on, idle, with_flow}
 use Rattle.mc_conn.specs.declared.conn.State.{State}
 use Rattle.mc_conn.specs.declared.conn.State.TheVariants.{Busy, Closed, Full, Idle}
 use Rattle.mc_connections.specs.InQueue.{WaitsOn}
 use Rattle.mc_connections.specs.Round.{Queued, ServesNext, none_served, one_served}
-use Rattle.mc_connections.specs.Sharing.{IsOfAnother, OneServe, OthersTakeOneTurnEach, RoundsAreServes, ServesLead, cost_in}
+use Rattle.mc_connections.specs.Sharing.{IsOfAnother, OneServe, OnlyTheTurnGoesOn, OthersTakeOneTurnEach, RoundsAreServes, ServesLead, cost_in}
 use Rattle.mc_connections.specs.Waiting.{ComesToWait, flow_of}
 use Rattle.mc_connections.specs.declared.waiting.Waiting.{Waiting}
 
@@ -108,3 +109,53 @@ rounds_are_serves until before _ _ (one_served count between last earlier next) 
       length-append first.0 (serve ∷ []) ∙ ap (λ n. n + 1) first.1,
       lead_on until before between last first.0 serve first.2 next refl refl,
     )
+
+turn_goes_on : (spent : ℕ) (flow : FlowState) → ¬ (¬ (TurnGoesOn spent flow)) → TurnGoesOn spent flow
+turn_goes_on spent flow not_over =
+    ⊎_elim
+    (λ (some : 0 < length flow.ready). ⊎_elim
+    (λ (left : spent < flow.credit). (some, left))
+    (λ (used : flow.credit ≤ spent). absurd (not_over (λ goes. let no : ⊥ = omega (arith, used, goes.1) in no)))
+    (cases_lt spent flow.credit))
+    (λ (none : length flow.ready ≤ 0). absurd (not_over (λ goes. let no : ⊥ = omega (arith, none, goes.0) in no)))
+    (cases_lt 0 (length flow.ready))
+
+-- a charge within a turn leaves the turn where it is, and what waits there
+record StillItsTurn (old new : QueueState) : Type 0 where
+  turn : new.turn ≡ old.turn
+  here : old.turn < length new.flows
+  waits : 0 < length (flow_at new old.turn).ready
+
+still_its_turn : (old new : QueueState) (spent : ℕ) → Charges spent old new → TurnGoesOn spent (flow_at old old.turn) → IsFair old → StillItsTurn old new
+still_its_turn old new spent (goes_on flow is on then) goes fair =
+    let put : FlowState = record flow { credit = flow.credit - spent } in
+    let there : (flow_at (with_flow old old.turn put) old.turn) ≡ put = get_or-set_same old.flows old.turn put idle fair.turn in
+    subst (λ (state : QueueState). StillItsTurn old state) (sym then) (record {
+      turn = refl;
+      here = subst (λ n. old.turn < n) (sym (length-set old.flows old.turn put)) fair.turn;
+      waits = subst (λ (it : FlowState). 0 < length it.ready) (sym there) on.0;
+    })
+still_its_turn old new spent (ends flow is over next follows then) goes fair = absurd (over (subst (λ (it : FlowState). TurnGoesOn spent it) (sym is) goes))
+
+-- the first flow in which something waits is the one that has its turn, if something waits there
+first_is_its_turn : (state : QueueState) (turn flow : ℕ) → state.turn ≡ turn → turn < length state.flows → 0 < length (flow_at state turn).ready → IsFirstReady state flow → flow ≡ turn
+first_is_its_turn state turn flow is here waits first =
+    ⊎_elim
+    (λ (some : 0 < first.others).
+    let comes : ComesAfter (length state.flows) state.turn 0 turn = (here, omega (arith, here), inl (omega (arith, is))) in
+    let none = first.first 0 turn some comes in
+    let no : ⊥ = omega (arith, waits, ap length none) in absurd no)
+    (λ (none : first.others ≤ 0).
+    ⊎_elim
+    (λ (same : state.turn + first.others ≡ flow). omega (arith, none, same, is))
+    (λ (past : state.turn + first.others ≡ flow + length state.flows). let no : ⊥ = omega (arith, none, past, is, here) in absurd no)
+    first.comes.2)
+    (cases_lt 0 first.others)
+
+pub only_the_turn_goes_on : OnlyTheTurnGoesOn
+only_the_turn_goes_on until before after next fair spent =
+    let queue : QueueState = before.waiting.queue in
+    let goes : TurnGoesOn before.waiting.spent (flow_at queue queue.turn) =
+    turn_goes_on before.waiting.spent (flow_at queue queue.turn) (λ over. next.goes_on (spent, over)) in
+    let still = still_its_turn queue next.turn.between before.waiting.spent next.turn.charged goes fair in
+    (first_is_its_turn next.turn.between queue.turn next.turn.flow still.turn still.here still.waits next.turn.given.next, goes)

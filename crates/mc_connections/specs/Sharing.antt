@@ -1,8 +1,9 @@
--- What the serves of a round cost each flow while another one waits; this project's profile, by the
--- turns of flows (surplus round-robin) that `fair_queue` has.
+-- What the serves of a round cost each flow while another one waits, and where a round ends; this
+-- project's profile, by the turns of flows (surplus round-robin) that `fair_queue` has.
 use Rattle.std.specs.Prelude.{◌≡◌, ◌≢◌, ℕ, ◌+◌, ◌<◌, ◌≤◌, Bool, List, [], ◌∷◌, All, length, cond, nat_eq}
-use Rattle.fair_queue.specs.Turns.{IsFair, flow_at}
+use Rattle.fair_queue.specs.Turns.{IsFair, TurnGoesOn, flow_at}
 use Rattle.mc_connections.specs.Round.{Queued, ServeInTurn, ServesNext}
+use Rattle.mc_connections.specs.declared.waiting.TheConstants.{ROUND}
 
 -- a serve of a connection: the flow in which it waited, and what this has cost
 pub record OneServe : Type 0 where
@@ -44,3 +45,11 @@ abbrev pub RoundsAreServes : Type 0
 RoundsAreServes = (until : Bool) (before after : Queued) (count : ℕ) →
     ServeInTurn until before count after →
     (serves : List OneServe) × (length serves ≡ count) × ServesLead until before serves after
+
+-- once as much is spent in a round as a round is to spend, only the flow that has its turn is
+-- served, and only while its turn goes on
+abbrev pub OnlyTheTurnGoesOn : Type 0
+OnlyTheTurnGoesOn = (until : Bool) (before after : Queued) (next : ServesNext until before after) →
+    IsFair before.waiting.queue → ROUND ≤ before.waiting.spent_in_round →
+    (next.turn.flow ≡ before.waiting.queue.turn)
+    × TurnGoesOn before.waiting.spent (flow_at before.waiting.queue before.waiting.queue.turn)

@@ -11,7 +11,7 @@ ghost use Rattle.mc_connections.specs.InTurn.{HaveServedInTurn, InTurn};
 ghost use Rattle.mc_connections.specs.Life.{OwesInLogs, OwesInParts, WasAnswered, came_of, sent_of};
 ghost use Rattle.mc_connections.specs.Seen.{AreAnsweredFrom, IsAnsweredAmong, IsThere, SeesThenAsks, SplitsAtLast, WasSent, announced_number, history_place};
 ghost use Rattle.mc_connections.specs.Serving.{HasComeTo, answered_between, moved_between, tenant_of};
-ghost use Rattle.mc_connections.specs.Sharing.{OthersTakeOneTurnEach, RoundsAreServes};
+ghost use Rattle.mc_connections.specs.Sharing.{OnlyTheTurnGoesOn, OthersTakeOneTurnEach, RoundsAreServes};
 ghost use Rattle.mc_connections.specs.Tallying.{tally_place};
 ghost use Rattle.mc_connections.specs.Waiting.{cost_of, flow_of};
 ghost use Rattle.mc_connections.specs.Working.{IsEmpty, KeepsPlaces, Standing, Works, standing};
@@ -91,6 +91,12 @@ pub fn others_take_one_turn_each()
 {
     fair_queue::laws::a_flow_waits_for_one_quantum_of_each_other();
 }
+
+/// Once 10,240 are spent in a round, only connections of the flow that has its turn are served in
+/// it, and only while that turn goes on.
+pub fn a_round_ends_with_a_turn()
+    ensures { OnlyTheTurnGoesOn }
+{}
 
 /// Work adds up: none, work after work, and an arrival or the worker's catching up after work. The
 /// worker is the same later on, its connections are still of its log's roles, and as many places
