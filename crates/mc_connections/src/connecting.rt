@@ -202,10 +202,10 @@ impl Connections {
         }
     }
 
-    /// Returns how much serving the connection under a key may take: less if not all that there are
-    /// are its tenant's.
-    fn share_of(&self, key: usize) -> Share {
-        match self.tenant_of(key) {
+    /// Returns how much serving a connection of this tenant, or of an administrator if there is
+    /// none, may take: less if not all that there are are that tenant's.
+    fn share_of(&self, tenant: Option<usize>) -> Share {
+        match tenant {
             Some(tenant) if self.places.held_by(tenant) >= self.by_key.len() => ALONE,
             _ => SHARED,
         }
@@ -250,9 +250,9 @@ impl Connections {
         Admission::Admitted(self.by_key.insert_reserved(connection))
     }
 
-    /// Serves the connection under a key, if there is one, and counts its requests in the tally. If
-    /// it has ended it is removed, and its stream closes: what has come on it goes into the buffer
-    /// and is dropped.
+    /// Serves the connection under a key, if there is one, which is this tenant's, or an
+    /// administrator's if there is none, and counts its requests in the tally. If it has ended it is
+    /// removed, and its stream closes: what has come on it goes into the buffer and is dropped.
     pub(crate) fn serve<G: Gate>(
         &mut self,
         until_done: bool,
@@ -260,6 +260,7 @@ impl Connections {
         gate: &mut G,
         buffer: &mut [u8; PULL_BYTES],
         key: usize,
+        tenant: Option<usize>,
         stops_short: bool,
         closing: &mut Closing,
         tally: &mut Tally,
@@ -271,7 +272,7 @@ impl Connections {
         ensures tally { TalliesAt key result.state (standing worker.old self.old)
             (standing worker.new self.new) tally.old tally.new }
     {
-        let share = self.share_of(key);
+        let share = self.share_of(tenant);
         let Some(connection) = self.by_key.get_mut(key) else {
             return Served {
                 state: State::Idle,

@@ -125,7 +125,8 @@ impl ReadyQueue {
     {
         let Next { key, stops_short } = next;
         let closing = &mut self.closing;
-        let place = self.tallies.place_of(self.connections.tenant_of(key));
+        let tenant = self.connections.tenant_of(key);
+        let place = self.tallies.place_of(tenant);
         let one = &mut self.tallies.all[place];
         one.is_new = true;
         let served = self.connections.serve(
@@ -134,6 +135,7 @@ impl ReadyQueue {
             gate,
             buffer,
             key,
+            tenant,
             stops_short,
             closing,
             &mut one.tally,
