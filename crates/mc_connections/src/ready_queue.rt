@@ -1,13 +1,15 @@
 //! Which of an event loop's connections are served next.
 ghost use Rattle.std.specs.List.{list_any};
-ghost use Rattle.std.specs.Prelude.{◌≡◌, ◌+◌, ◌-◌, ◌*◌, ◌^◌, ◌≤◌, ◌↔◌, length, min, All, IfOk, IsTrue, OnOk, Some};
+ghost use Rattle.std.specs.Prelude.{◌≡◌, ◌+◌, ◌-◌, ◌*◌, ◌^◌, ◌≤◌, ◌↔◌, length, min, replicate, All, IfOk, IsTrue, None, OnOk, Some};
 ghost use Rattle.mc_connections.specs.InQueue.{HasLetWait, HasServedNext};
 ghost use Rattle.mc_connections.specs.Round.{HaveCome, MakesRound, NoConnectionWaits, is_wake, queued_at, short_of};
 ghost use Rattle.mc_connections.specs.Serving.{tenant_at};
 ghost use Rattle.mc_connections.specs.Tallying.{CountsForTenant, CountsNothing};
 ghost use Rattle.mc_connections.specs.Waiting.{ComesToWait, IsNoted, short_at, short_with};
 ghost use Rattle.mc_connections.specs.Working.{IsNewFor, KeepsPlaces, Works, standing};
+ghost use Rattle.mc_connections.specs.declared.connections.TheConstants.{MOST_OF_ALL};
 ghost use Rattle.mc_connections.specs.declared.places.TheConstants.{MOST_CONNECTIONS};
+ghost use Rattle.mc_connections.specs.declared.waiting.TheConstants.{QUANTUM};
 ghost use Rattle.mio.specs.Events.{items};
 ghost use Rattle.uc_worker.specs.Worker.{tenants_of};
 
@@ -60,7 +62,10 @@ impl ReadyQueue {
             (λ ready. length ready.tallies.all.items ≡ min (tenants + 1) (2 ^ 64 - 1)) }
         ensures flows { IfOk result
             (λ ready. length ready.waiting.queue.flows ≡ min (tenants + 1) (2 ^ 64 - 1)) }
+        ensures quantum { IfOk result (λ ready. ready.waiting.queue.quantum ≡ QUANTUM) }
         ensures idle { IfOk result NoConnectionWaits }
+        ensures none { IfOk result
+            (λ ready. ready.waiting.waits.items ≡ replicate MOST_OF_ALL None) }
     {
         let waiting = Waiting::new(alloc, tenants)?;
         let connections = Connections::new(alloc, tenants, reserve)?;
