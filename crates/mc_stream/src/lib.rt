@@ -11,6 +11,7 @@ pub use standard::{ReadInput, WriteOutput, WriteParts};
 pub use stream::{Input, Output, Pull, Push};
 pub use tape::Tape;
 
+pub mod laws;
 pub mod memory;
 pub mod pushing;
 pub mod standard;
