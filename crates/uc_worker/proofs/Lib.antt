@@ -9,6 +9,7 @@ pub mod Counting
 pub mod Lacking
 pub mod Owning
 pub mod Closing
+pub mod FewPlaces
 pub mod TurningOver
 pub mod AllWorkers
 pub mod Unsettled

@@ -1,5 +1,5 @@
 //! What follows from the definitions. A law is the contract of a function with an empty body.
-ghost use Rattle.std.specs.Prelude.{◌≡◌, ◌⊎◌, ℕ, ◌+◌, ◌<◌, ◌≤◌, length, refl};
+ghost use Rattle.std.specs.Prelude.{◌≡◌, ◌⊎◌, ◌↔◌, ℕ, ◌+◌, ◌<◌, ◌≤◌, length, refl};
 ghost use Rattle.std.proofs.Common.{◌∙◌};
 ghost use Rattle.lists.proofs.Public.{begins_self, begins_through};
 ghost use Rattle.mc_model.specs.declared.fault.Fault.{Fault};
@@ -77,6 +77,13 @@ pub fn a_log_closes_where_fewer_places_are_left()
         (seat_of worker).size.workers ≤ (seat_of worker).size.places → IsClosing worker →
         (seat_of worker).size.places
         < length (seat_of worker).state.learned + (seat_of worker).size.workers }
+{}
+
+/// A log with fewer places than workers is used up to its last place, however many workers there
+/// are: it closes just when a worker has learned all places.
+pub fn a_log_with_few_places_closes_at_its_end()
+    ensures { (worker : Worker) → (seat_of worker).size.places < (seat_of worker).size.workers →
+        (IsClosing worker ↔ (seat_of worker).size.places ≤ length (seat_of worker).state.learned) }
 {}
 
 /// What a worker takes in one call after another adds up; and who takes no event looks on only where
