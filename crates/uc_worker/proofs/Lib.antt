@@ -6,6 +6,7 @@ pub mod Told
 pub mod Telling
 pub mod Replies
 pub mod Counting
+pub mod FewCalls
 pub mod Lacking
 pub mod Owning
 pub mod Closing

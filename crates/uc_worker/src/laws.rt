@@ -1,5 +1,5 @@
 //! What follows from the definitions. A law is the contract of a function with an empty body.
-ghost use Rattle.std.specs.Prelude.{◌≡◌, ◌⊎◌, ◌↔◌, ℕ, ◌+◌, ◌<◌, ◌≤◌, length, refl};
+ghost use Rattle.std.specs.Prelude.{◌≡◌, ◌⊎◌, ◌↔◌, ℕ, ◌+◌, ◌*◌, ◌<◌, ◌≤◌, length, refl};
 ghost use Rattle.std.proofs.Common.{◌∙◌};
 ghost use Rattle.lists.proofs.Public.{begins_self, begins_through};
 ghost use Rattle.mc_model.specs.declared.fault.Fault.{Fault};
@@ -7,7 +7,7 @@ ghost use Rattle.mc_model.specs.declared.fault.Fault.TheVariants.{LogFull, Memor
 ghost use Rattle.mc_model.specs.Legal.{count};
 ghost use Rattle.uc_places.specs.declared.desk.Desk.{Desk};
 ghost use Rattle.uc_places.specs.declared.view.View.{View};
-ghost use Rattle.uc_places.specs.Calls.{desk_size, state_of};
+ghost use Rattle.uc_places.specs.Calls.{calls_of, desk_size, state_of};
 ghost use Rattle.uc_places.specs.Reached.{LastIsReached};
 ghost use Rattle.uc_places.specs.SeatLaw.{SeatLaw};
 ghost use Rattle.uc_worker.specs.Counting.{LooksOn, TakesFew};
@@ -94,6 +94,14 @@ pub fn events_add_up()
         TakesFew more second third → TakesFew (few + more) first third }
     ensures looks { (desk : Desk) → LooksOn desk desk →
         length (state_of desk).learned ≡ (desk_size desk).places }
+{}
+
+/// What a worker takes shows at its seat, which keeps all its calls: from one moment to another it
+/// has at most two calls more for each place that it learns, and `more` besides.
+pub fn few_events_are_few_calls()
+    ensures { (more : ℕ) (old new : Desk) → TakesFew more old new →
+        length (calls_of new) + 2 * length (state_of old).learned
+        ≤ length (calls_of old) + 2 * length (state_of new).learned + more }
 {}
 
 /// A worker that has read on has learned as many places as were decided after its last event.
