@@ -25,6 +25,7 @@ mod event_loop;
 pub mod front;
 pub mod halt;
 pub mod handing;
+pub mod laws;
 pub mod listener;
 mod mailbox;
 mod publishing;
