@@ -1,5 +1,5 @@
 //! What follows from the definitions. A law is the contract of a function with an empty body.
-ghost use Rattle.std.specs.Prelude.{◌≡◌, ℕ, ◌+◌, ◌≤◌, List, [], ◌++◌, length};
+ghost use Rattle.std.specs.Prelude.{◌≡◌, ℕ, ◌+◌, ◌≤◌, max, List, [], ◌++◌, length};
 ghost use Rattle.mc_counters.specs.Tallied.{CountedRequest};
 ghost use Rattle.mc_counters.specs.declared.tally.Tally.{Tally};
 ghost use Rattle.mc_model.specs.declared.command.Command.{Command};
@@ -18,7 +18,7 @@ ghost use Rattle.mc_conn.specs.declared.conn.Role.{Role};
 ghost use Rattle.mc_conn.specs.declared.conn.Role.TheVariants.{Tenant};
 ghost use Rattle.mc_conn.specs.declared.conn.TheConstants.{PULL_BYTES, QUEUE_BYTES};
 ghost use Rattle.mc_conn.specs.Alone.{IsAlone, IsAloneOver, commands_of, first_mark, owed, owed_after};
-ghost use Rattle.mc_conn.specs.Ending.{LogsInTime, PullsLate, Stops};
+ghost use Rattle.mc_conn.specs.Ending.{LogsInTime, Pulls, PullsFew, PullsLate, Stops};
 ghost use Rattle.mc_conn.specs.Held.{Holding, IsRead};
 ghost use Rattle.mc_conn.specs.Owed.{IsPlaced, IsTurnedAway, Mark, Owes, mark_of};
 ghost use Rattle.mc_conn.specs.Tallying.{HasCounted, HasCountedTo};
@@ -108,6 +108,16 @@ pub fn turns_add_up()
     ensures sends { (fault : Fault) (a b : Scene) → Stops a b fault →
         (more : List ℕ) × Pushes a.streams.output b.streams.output more
         × (waits a.streams.output.events ≤ waits b.streams.output.events) }
+{}
+
+/// A turn that may pull little takes little: the bytes that come in it are at most as many as it may
+/// pull, or one, and never more than a pull asks for.
+pub fn as_much_comes_as_may_be_pulled()
+    ensures may { (most : ℕ) (before after : Scene) (takes : Takes before after) →
+        Pulls before after → PullsFew most before.streams.input after.streams.input →
+        length takes.taken.came ≤ max most 1 }
+    ensures asks { (before after : Scene) (takes : Takes before after) → Pulls before after →
+        length takes.taken.came ≤ PULL_BYTES }
 {}
 
 /// What was read in one part and in the next was read in both, and what is owed stays owed while
