@@ -2,6 +2,8 @@
 //! faults. Begin with `write_reply`; `specs/Text.antt` defines the bytes.
 #![tactic(auto)]
 
+pub mod laws;
+
 ghost use Rattle.std.specs.Io.{StartsWith};
 ghost use Rattle.std.specs.Prelude.{◌≡◌, ◌+◌, ◌≤◌, ◌++◌, codes, decimal, flat_map, length, vec_capacity, vec_len, OnErr, OnOk, IsOk, IsOkUnless};
 ghost use Rattle.mc_model.specs.declared.reply.Reply.TheVariants.{Refused};
