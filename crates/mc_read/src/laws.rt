@@ -2,7 +2,8 @@
 //! and its lines are those that memcached's doc/protocol.txt tells a client to send, within the
 //! profile's limits. A law is the contract of a function that does nothing: it holds for every byte
 //! list.
-ghost use Rattle.std.specs.Prelude.{◌≡◌, ◌≢◌, ℕ, ◌^◌, ◌-◌, ◌<◌, ◌≤◌, Bool, false, All, IsTrue, List, [], ◌∷◌, ◌++◌, length, codes, decimal};
+ghost use Rattle.std.specs.Prelude.{◌≡◌, ◌≢◌, ◌↔◌, ◌⊎◌, ℕ, ◌^◌, ◌-◌, ◌<◌, ◌≤◌, Bool, false, All, IsTrue, List, [], ◌∷◌, ◌++◌, length, codes, decimal};
+ghost use Rattle.std.specs.Str.Parse.{IsNumeral, digits_value};
 ghost use Rattle.mc_model.specs.declared.command.Command.{Command};
 ghost use Rattle.mc_model.specs.declared.command.Command.TheVariants as commands;
 ghost use Rattle.mc_model.specs.declared.command.Command.TheVariants.{Cas, Decr, Delete, Flush, Get, Incr, Store};
@@ -27,7 +28,7 @@ ghost use Rattle.mc_read.specs.Line.{asked};
 ghost use Rattle.mc_read.specs.Reading.{Reads};
 ghost use Rattle.mc_read.specs.Sending.{IsLawfulCommand, block_sent, line_sent, noreply_if, sent, setting_sent, verb_name};
 ghost use Rattle.mc_read.specs.Text.{IsRequestText, IsUnbroken, body_length};
-ghost use Rattle.mc_read.specs.Word.{is_zero, words};
+ghost use Rattle.mc_read.specs.Word.{is_exptime, is_zero, words};
 
 /// Every byte list has a reading, from a tenant's client and from an administrator.
 pub fn every_stream_reads()
@@ -130,6 +131,19 @@ pub fn no_command_expires()
         IsUnbroken line → words line ≡ codes "flush_all" ∷ exptime ∷ more →
         exptime ≢ codes "noreply" →
         IsRequestText asked (line ++ 10 ∷ body) (Logged command quiet) → IsTrue (is_zero exptime) }
+{}
+
+/// An exptime is one decimal digit or more, of any count, with or without a minus before them, and
+/// it is zero exactly if these digits spell the number 0, however long they are.
+pub fn exptimes_are_numbers_of_any_length()
+    ensures spelled { (word : List ℕ) →
+        IsTrue (is_exptime word)
+        ↔ (IsNumeral 10 word
+        ⊎ ((digits : List ℕ) × (word ≡ 45 ∷ digits) × IsNumeral 10 digits)) }
+    ensures zero { (digits : List ℕ) → IsNumeral 10 digits →
+        IsTrue (is_zero digits) ↔ (digits_value 10 digits ≡ 0) }
+    ensures minus { (digits : List ℕ) → IsNumeral 10 digits →
+        IsTrue (is_zero (45 ∷ digits)) ↔ (digits_value 10 digits ≡ 0) }
 {}
 
 /// Only administrators set quotas: no line of a tenant's client asks for that, by a tenant's name
