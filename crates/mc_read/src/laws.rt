@@ -2,7 +2,7 @@
 //! and its lines are those that memcached's doc/protocol.txt tells a client to send, within the
 //! profile's limits. A law is the contract of a function that does nothing: it holds for every byte
 //! list.
-ghost use Rattle.std.specs.Prelude.{◌≡◌, ◌≢◌, ◌↔◌, ◌⊎◌, ℕ, ◌^◌, ◌-◌, ◌<◌, ◌≤◌, Bool, false, All, IsTrue, List, [], ◌∷◌, ◌++◌, length, codes, decimal};
+ghost use Rattle.std.specs.Prelude.{◌≡◌, ◌≢◌, ◌↔◌, ◌⊎◌, ℕ, ◌^◌, ◌+◌, ◌-◌, ◌<◌, ◌≤◌, Bool, false, All, IsTrue, List, [], ◌∷◌, ◌++◌, length, codes, decimal};
 ghost use Rattle.std.specs.Str.Parse.{IsNumeral, digits_value};
 ghost use Rattle.mc_model.specs.declared.command.Command.{Command};
 ghost use Rattle.mc_model.specs.declared.command.Command.TheVariants as commands;
@@ -105,6 +105,32 @@ pub fn too_long_is_refused()
         IsRequestText asked
         (line_sent (verb_name verb ∷ key ∷ decimal flags ∷ codes "0" ∷ decimal size ∷ noreply_if quiet))
         (Local (Refused BAD_FORMAT) false) }
+{}
+
+/// The block of a storage line goes with it, whatever of the line is refused: where the fourth word
+/// behind the name spells a length that can be read, just so many bytes and the two behind them
+/// belong to the line, so data are never read as commands. Where it doesn't, the line is alone.
+pub fn a_block_goes_with_its_line()
+    ensures store { (line : List ℕ) (verb : Verb) (key flags exptime size : List ℕ)
+        (last : List (List ℕ)) → length last ≤ 1 →
+        words line ≡ verb_name verb ∷ key ∷ flags ∷ exptime ∷ size ∷ last →
+        IsNumeral 10 size → digits_value 10 size ≤ 2147483645 →
+        body_length (asked line) ≡ digits_value 10 size + 2 }
+    ensures cas { (line : List ℕ) (key flags exptime size unique : List ℕ)
+        (last : List (List ℕ)) → length last ≤ 1 →
+        words line ≡ codes "cas" ∷ key ∷ flags ∷ exptime ∷ size ∷ unique ∷ last →
+        IsNumeral 10 size → digits_value 10 size ≤ 2147483645 →
+        body_length (asked line) ≡ digits_value 10 size + 2 }
+    ensures store_alone { (line : List ℕ) (verb : Verb) (key flags exptime size : List ℕ)
+        (last : List (List ℕ)) → length last ≤ 1 →
+        words line ≡ verb_name verb ∷ key ∷ flags ∷ exptime ∷ size ∷ last →
+        (IsNumeral 10 size → digits_value 10 size ≤ 2147483645 → ⊥) →
+        body_length (asked line) ≡ 0 }
+    ensures cas_alone { (line : List ℕ) (key flags exptime size unique : List ℕ)
+        (last : List (List ℕ)) → length last ≤ 1 →
+        words line ≡ codes "cas" ∷ key ∷ flags ∷ exptime ∷ size ∷ unique ∷ last →
+        (IsNumeral 10 size → digits_value 10 size ≤ 2147483645 → ⊥) →
+        body_length (asked line) ≡ 0 }
 {}
 
 /// Only valid commands are read: the keys are valid, and the numbers and the data within the
