@@ -25,8 +25,9 @@ ghost use Rattle.mc_read.specs.declared.line.TheConstants.{BLOCK_LENGTH, DELTA, 
 ghost use Rattle.mc_read.specs.declared.speaker.Speaker.{Speaker};
 ghost use Rattle.mc_read.specs.Administering.{asked_by_admin, lines_spoken};
 ghost use Rattle.mc_read.specs.Line.{asked};
-ghost use Rattle.mc_read.specs.Reading.{Reads};
+ghost use Rattle.mc_read.specs.Reading.{Kept, Reads, Swallowing};
 ghost use Rattle.mc_read.specs.Sending.{IsLawfulCommand, block_sent, line_sent, noreply_if, sent, setting_sent, verb_name};
+ghost use Rattle.mc_read.specs.State.{IsBounded};
 ghost use Rattle.mc_read.specs.Text.{IsRequestText, IsUnbroken, body_length};
 ghost use Rattle.mc_read.specs.Word.{is_exptime, is_zero, words};
 
@@ -131,6 +132,14 @@ pub fn a_block_goes_with_its_line()
         words line ≡ codes "cas" ∷ key ∷ flags ∷ exptime ∷ size ∷ unique ∷ last →
         (IsNumeral 10 size → digits_value 10 size ≤ 2147483645 → ⊥) →
         body_length (asked line) ≡ 0 }
+{}
+
+/// What a reader may keep while no request is whole is a line with its line feed, and a block with
+/// the two bytes behind it but for one: 65,537 bytes and 1,048,577, so 1,114,114, and no more.
+pub fn a_reader_keeps_one_request_at_most()
+    ensures kept { (bytes : List ℕ) → IsBounded (Kept bytes) ↔ (length bytes ≤ 1114114) }
+    ensures swallowing { (request : Request) (left : ℕ) (bytes : List ℕ) →
+        IsBounded (Swallowing request left bytes) ↔ (length bytes ≤ 1114114) }
 {}
 
 /// Only valid commands are read: the keys are valid, and the numbers and the data within the
