@@ -9,6 +9,7 @@ pub mod Exptimes
 pub mod Lawful
 pub mod Setting
 pub mod Awaiting
+mod Begun
 mod Blocks
 mod ExptimeNumbers
 mod Feeding

@@ -15,19 +15,21 @@ ghost use Rattle.mc_model.specs.declared.key_list.KeyList.{KeyList};
 ghost use Rattle.mc_model.specs.declared.name.Name.{Name};
 ghost use Rattle.mc_model.specs.declared.reply.Reply.TheVariants.{Refused};
 ghost use Rattle.mc_model.specs.declared.reply.TheConstants.WireNo.{BAD_FORMAT, TOO_LARGE};
+ghost use Rattle.mc_model.specs.declared.reply.WireNo.{WireNo};
 ghost use Rattle.mc_model.specs.declared.request.Request.{Request};
 ghost use Rattle.mc_model.specs.declared.request.Request.TheVariants.{Limit, Local, Logged, TooLong};
 ghost use Rattle.mc_model.specs.declared.settings.Limits.{Limits};
 ghost use Rattle.mc_model.specs.Key.{is_lawful_key};
 ghost use Rattle.mc_model.specs.Name.{is_lawful_name};
 ghost use Rattle.mc_model.specs.Settings.{AreLawfulLimits};
+ghost use Rattle.mc_read.specs.declared.line.Asked.TheVariants.{RefusedBlock};
 ghost use Rattle.mc_read.specs.declared.line.TheConstants.{BLOCK_LENGTH, DELTA, FLAGS, LINE_BYTES, UNIQUE};
 ghost use Rattle.mc_read.specs.declared.speaker.Speaker.{Speaker};
 ghost use Rattle.mc_read.specs.Administering.{asked_by_admin, lines_spoken};
 ghost use Rattle.mc_read.specs.Line.{asked};
 ghost use Rattle.mc_read.specs.Reading.{Kept, Reads, Swallowing};
 ghost use Rattle.mc_read.specs.Sending.{IsLawfulCommand, block_sent, line_sent, noreply_if, sent, setting_sent, verb_name};
-ghost use Rattle.mc_read.specs.State.{IsBounded};
+ghost use Rattle.mc_read.specs.State.{EndsInRefusal, IsBounded};
 ghost use Rattle.mc_read.specs.Text.{IsRequestText, IsUnbroken, body_length};
 ghost use Rattle.mc_read.specs.Word.{is_exptime, is_zero, words};
 
@@ -140,6 +142,18 @@ pub fn a_reader_keeps_one_request_at_most()
     ensures kept { (bytes : List ℕ) → IsBounded (Kept bytes) ↔ (length bytes ≤ 1114114) }
     ensures swallowing { (request : Request) (left : ℕ) (bytes : List ℕ) →
         IsBounded (Swallowing request left bytes) ↔ (length bytes ≤ 1114114) }
+{}
+
+/// A refused block is swallowed whatever refused it, and whatever its length: where a line names a
+/// block that is refused, and less has come than the block and the two bytes behind it, the reader's
+/// bytes end in that refusal, with so many bytes still to come. `Reader::next` then keeps none.
+pub fn a_begun_refused_block_is_swallowed()
+    ensures { (speaker : Speaker) (line part : List ℕ) (size : ℕ) (refusal : WireNo)
+        (quiet : Bool) →
+        IsUnbroken line → length line ≤ 65536 →
+        lines_spoken speaker line ≡ RefusedBlock size refusal quiet → length part < size + 2 →
+        EndsInRefusal (lines_spoken speaker) (line ++ 10 ∷ part) (Local (Refused refusal) quiet)
+        (size + 2 - length part) }
 {}
 
 /// Only valid commands are read: the keys are valid, and the numbers and the data within the
