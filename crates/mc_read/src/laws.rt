@@ -111,7 +111,7 @@ pub fn too_long_is_refused()
 {}
 
 /// The block of a storage line goes with it, whatever of the line is refused: where the fourth word
-/// behind the name spells a length that can be read, just so many bytes and the two behind them
+/// behind the name spells a length that can be read, exactly that many bytes and the two behind them
 /// belong to the line, so data are never read as commands. Where it doesn't, the line is alone.
 pub fn a_block_goes_with_its_line()
     ensures store { (line : List ℕ) (verb : Verb) (key flags exptime size : List ℕ)
@@ -146,7 +146,7 @@ pub fn a_reader_keeps_one_request_at_most()
 
 /// A refused block is swallowed whatever refused it, and whatever its length: where a line names a
 /// block that is refused, and less has come than the block and the two bytes behind it, the reader's
-/// bytes end in that refusal, with so many bytes still to come. `Reader::next` then keeps none.
+/// bytes end in that refusal, with that many bytes still to come. `Reader::next` then keeps none.
 pub fn a_begun_refused_block_is_swallowed()
     ensures { (speaker : Speaker) (line part : List ℕ) (size : ℕ) (refusal : WireNo)
         (quiet : Bool) →
