@@ -5,16 +5,20 @@ For each call, named as in docs/PROMISES.md: how many definitions its clauses re
 file by file. Comments, blank lines and imports don't count, nor definitions of the kit.
 
 reading.py --write brings the two tables of docs/DEFINITIONS.md up to date, which have these numbers and how long specs/ of each crate is;
-reading.py --check fails where they aren't.
+reading.py --check fails where they aren't, or where a name that the document explains isn't in the crates that its section names.
 """
 
 import re
 import sys
 from collections import defaultdict
 
-from specifications import CRATES, ROOT, Definitions, anchor_of, public_items
+from specifications import CRATES, ROOT, WORD, Definitions, anchor_of, public_items
 
 DOCUMENT = ROOT / "docs/DEFINITIONS.md"
+SECTION = re.compile(r"(?m)^(?=## )")
+# The names that an entry begins with.
+EXPLAINED = re.compile(r"(?m)^- ((?:`[^`]*`(?:,\s+|\s+and\s+)?)+)")
+NAME = re.compile(r"`([A-Za-z_]\w*)")
 HEADLINE = (
     "uc_worker::Worker::submit",
     "uc_worker::Worker::meet",
@@ -84,6 +88,22 @@ def updated(document):
     return re.sub(head + r"(?:\|.*\n)*?\| together \|.*$", lambda found: found[1] + table, document)
 
 
+def unknown_names(document):
+    """For each section of the definitions of a crate: the names that its entries explain and no crate has of those that it names."""
+    words = {folder.name: words_of(folder) for folder in CRATES.iterdir()}
+    for section in SECTION.split(document):
+        title = section.partition("\n")[0]
+        if "crates/" in title:
+            known = set().union(*(words[crate] for crate in words.keys() & set(WORD.findall(section))))
+            explained = (name for entry in EXPLAINED.findall(section) for name in NAME.findall(entry))
+            yield from ((title, name) for name in explained if name not in known)
+
+
+def words_of(folder):
+    files = [*folder.glob("specs/**/*.antt"), *folder.glob("src/**/*.rt")]
+    return {word for file in files for word in WORD.findall(file.read_text(encoding="utf-8"))}
+
+
 def print_calls(calls):
     together = {}
     for call, reached in reached_by(calls):
@@ -104,6 +124,9 @@ def main():
     elif sys.argv[1:] == ["--check"]:
         if updated(document) != document:
             sys.exit("docs/DEFINITIONS.md has other numbers than the sources: make documents")
+        unknown = [f"docs/DEFINITIONS.md: {title.strip('# ')}: `{name}` is in none of its crates" for title, name in unknown_names(document)]
+        if unknown:
+            sys.exit("\n".join(unknown))
     else:
         print_calls(sys.argv[1:] or HEADLINE)
 
