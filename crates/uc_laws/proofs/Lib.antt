@@ -10,3 +10,7 @@ mod Answers
 mod Replaying
 mod Worlds
 mod Empty
+mod Made
+mod Proposals
+mod Progress
+mod Unannounced

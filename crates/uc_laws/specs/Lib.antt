@@ -1,2 +1,4 @@
 pub mod CoreRun
 pub mod Over
+pub mod Counts
+pub mod Workers
