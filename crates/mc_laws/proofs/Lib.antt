@@ -1,4 +1,7 @@
 mod Keys
+mod LineWords
+mod LimitWords
+mod LinesRead
 mod Names
 mod Puts
 mod Quotas

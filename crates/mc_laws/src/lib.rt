@@ -3,6 +3,7 @@
 //! the protocol is rejected here.
 #![tactic(auto)]
 
+pub mod lines;
 pub mod logs;
 pub mod places;
 pub mod tables;

@@ -1,13 +1,14 @@
 //! What one log of all tenants' commands does to their tables, and the tenants' isolation: no
 //! tenant's commands alter another's table or replies.
 ghost use Rattle.std.specs.Option.{option_map};
-ghost use Rattle.std.specs.Prelude.{◌≡◌, ◌≢◌, ℕ, List, [], ◌∷◌, ◌++◌, Option, Some, None, IfSome, slice_get};
+ghost use Rattle.std.specs.Prelude.{◌≡◌, ◌≢◌, ◌↔◌, ℕ, ◌+◌, ◌-◌, ◌^◌, ◌≤◌, true, false, List, [], ◌∷◌, ◌++◌, length, Option, Some, None, IfSome, slice_get};
+ghost use Rattle.mc_items.specs.Asker.{answer_for, is_own, reply_for};
 ghost use Rattle.mc_model.specs.declared.request.Entry.{Entry};
 ghost use Rattle.mc_model.specs.declared.command.Command.{Command};
 ghost use Rattle.mc_model.specs.declared.settings.Limits.{Limits};
 ghost use Rattle.mc_model.specs.History.{StandsFor, answer, answer_from, state_after, state_from};
 ghost use Rattle.mc_model.specs.Log.{PlaceSighting, entry_seen, own};
-ghost use Rattle.mc_model.specs.Replay.{EachStands, TakeEffect, reply_to};
+ghost use Rattle.mc_model.specs.Replay.{EachStands, HaveRoom, TakeEffect, empty_tables, reply_to};
 ghost use Rattle.mc_model.specs.State.{TableState, next_reply};
 
 /// A tenant's own commands in a log are those of its own entries, in log order: such an entry,
@@ -31,6 +32,25 @@ pub fn an_entry_counts_for_its_own_ticket()
     ensures others { (seen : PlaceSighting) (entry : Entry) → seen.entry ≡ Some entry →
         entry.ticket ≢ seen.ticket → entry_seen seen ≡ None }
     ensures absent { (seen : PlaceSighting) → seen.entry ≡ None → entry_seen seen ≡ None }
+{}
+
+/// An entry is the asker's own exactly if its ticket is that worker's; if nobody asks, none is.
+/// Only the asker's own entries are answered, as the table of the entry's tenant answers them.
+pub fn only_own_entries_are_answered()
+    ensures own { (asker : Option ℕ) (entry : Entry) →
+        (is_own asker entry ≡ true) ↔ (asker ≡ Some entry.ticket.worker) }
+    ensures reply { (asker : Option ℕ) (tables : List TableState) (entry : Entry) →
+        is_own asker entry ≡ true →
+        reply_for asker tables (Some entry)
+        ≡ option_map (λ table. next_reply table entry.command) (slice_get tables entry.tenant) }
+    ensures no_reply { (asker : Option ℕ) (tables : List TableState) (entry : Entry) →
+        is_own asker entry ≡ false → reply_for asker tables (Some entry) ≡ None }
+    ensures answer { (asker : Option ℕ) (openings : List TableState) (log : List (Option Entry))
+        (entry : Entry) → is_own asker entry ≡ true →
+        answer_for asker openings log (Some entry) ≡ reply_to openings log (Some entry) }
+    ensures no_answer { (asker : Option ℕ) (openings : List TableState) (log : List (Option Entry))
+        (entry : Entry) → is_own asker entry ≡ false →
+        answer_for asker openings log (Some entry) ≡ None }
 {}
 
 /// The tables of an empty log are those that it was opened over. The entry of one more place is
@@ -87,4 +107,15 @@ pub fn tenants_are_apart()
         slice_get openings next.tenant ≡ slice_get others next.tenant →
         reply_to openings (front ++ entry ∷ back) (Some next)
         ≡ reply_to others (front ++ back) (Some next) }
+{}
+
+/// A log takes at most one unique a place from each table, however many tenants there are. An empty
+/// table has room for 2^64 - 1 changes. Where there was room in each table for a log's places and
+/// for some more changes, there is room for these after the log.
+pub fn uniques_are_taken_one_a_place()
+    ensures empty { (limits : List Limits) (places : ℕ) →
+        places ≤ 2 ^ 64 - 1 → HaveRoom (empty_tables limits) places }
+    ensures left { (openings tables : List TableState) (log : List (Option Entry)) (more : ℕ) →
+        EachStands openings log tables → HaveRoom openings (length log + more) →
+        HaveRoom tables more }
 {}

@@ -458,8 +458,8 @@ pub fn delete_takes_out()
         changes opening (list ++ Delete key ∷ []) ≡ changes opening list }
 {}
 
-/// A flush is answered with OK and is no change. After it every get finds nothing, and nothing
-/// counts against the quotas.
+/// A flush is answered with OK and is no change. Directly behind it every get finds nothing, and
+/// nothing counts against the quotas.
 pub fn flush_takes_all_out()
     ensures ok { (opening : Limits) (list : List Command) → answer opening list Flush ≡ Ok }
     ensures nothing { (opening : Limits) (earlier : List Command) (keys : KeyList)

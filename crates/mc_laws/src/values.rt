@@ -1,4 +1,4 @@
-//! Which values are valid, and when two of them are equal.
+//! Which values are valid, when two of them are equal, and what is hashed of a key.
 ghost use Rattle.std.specs.Prelude.{◌≡◌, ◌≢◌, ◌↔◌, ◌⊎◌, ℕ, ◌<◌, ◌≤◌, All, Bool, List, length, slice_get, Some, IsTrue};
 ghost use Rattle.mc_model.specs.declared.command.Command.{Command};
 ghost use Rattle.mc_model.specs.declared.command.Command.TheVariants.{Delete, Flush, Get, Limit};
@@ -17,6 +17,7 @@ ghost use Rattle.mc_model.specs.Name.{is_lawful_name, tenant_named};
 ghost use Rattle.mc_model.specs.Settings.{Configuration, IsLawful};
 
 use mc_model::{Data, Key, KeyList, Name, ValueList};
+use std::hash::{Hash, Hasher};
 
 /// The numbers in this project's profile.
 pub fn the_profiles_numbers()
@@ -83,6 +84,13 @@ pub fn keys_are_equal_by_their_bytes(key: &Key, other: &Key) -> bool
     ensures { IsTrue result ↔ (key.now ≡ other.now) }
 {
     key == other
+}
+
+/// All bytes of a key are hashed, in one write, and nothing else.
+pub fn keys_are_hashed_whole<H: Hasher>(key: &Key, state: &mut H)
+    ensures { state.new ≡ H.write state.old key.now }
+{
+    key.hash(state);
 }
 
 /// Two names are equal exactly when their bytes are.
