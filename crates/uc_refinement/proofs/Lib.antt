@@ -4,3 +4,5 @@ mod OneCoreRun
 mod OwnReplies
 mod Behind
 mod ClosedRuns
+mod GivenReplies
+mod Settled

@@ -11,6 +11,7 @@ use Rattle.mc_model.specs.declared.reply.Reply.{Reply}
 use Rattle.mc_model.specs.declared.request.Entry.{Entry}
 use Rattle.mc_model.specs.declared.shown.ShownState.{ShownState}
 use Rattle.mc_model.specs.Lawful.{IsWorker, ShownEvent}
+use Rattle.mc_model.specs.Legal.{ticket_of}
 use Rattle.mc_model.specs.Replay.{reply_to}
 use Rattle.mc_model.specs.Settings.{Configuration}
 use Rattle.mc_model.specs.State.{TableState}
@@ -21,9 +22,12 @@ use Rattle.uc_log.specs.declared.log.Log.{Log}
 use Rattle.uc_laws.specs.CoreRun.{IsCoreRun, log_size}
 use Rattle.uc_places.specs.OneRun.{AreOfAll}
 use Rattle.uc_places.specs.Run.{HasMade}
+use Rattle.uc_worker.specs.declared.worker.Answer.{Answer}
 use Rattle.uc_worker.specs.declared.worker.Worker.{Worker}
+use Rattle.uc_worker.specs.Going.{Continues, Submits}
 use Rattle.uc_worker.specs.Histories.{AreDecided}
 use Rattle.uc_worker.specs.TurningOver.{HaveOneHistory, IsUpToDateAt}
+use Rattle.uc_worker.specs.Unsettled.{HasSettled}
 use Rattle.uc_worker.specs.Worker.{announced_of, history_of, openings_of, seat_of}
 use Rattle.uc_worker.specs.AllWorkers.{AreOnOneRun, own_part}
 
@@ -148,3 +152,32 @@ ClosedLogsRunTheCore = (tables : List TableState) (log : Log) (workers : List Wo
     (places : ℕ) → AreAllOf log workers → AreOver tables workers → AreOnOneRun workers →
     HaveOneHistory workers → All (IsUpToDateAt places) workers →
     HaveRunTheCore log.settings tables workers
+
+-- What follows from a worker's history at the place of a command of its own, as that history was at
+-- some time before all workers came back, is what the run gives it there.
+abbrev pub EarlierRepliesAreGiven : Type 0
+EarlierRepliesAreGiven = (settings : Configuration) (tables : List TableState)
+    (workers : List Worker) (ran : HaveRunTheCore settings tables workers) (number place : ℕ)
+    (early worker : Worker) (seen : Sighting) (reply : Reply) →
+    slice_get workers number ≡ Some worker → Continues early worker →
+    slice_get (history_of early) place ≡ Some seen → seen.ticket.worker ≡ number →
+    Some reply ≡ reply_to (openings_of early) (entries (take place (history_of early))) seen.entry →
+    (at : ℕ) × (slice_get ran.one.core.given at ≡ Some (number, place, reply))
+
+-- So each answer to a command that a worker submitted at some time is what the run gives it at the
+-- place that the answer names.
+abbrev pub SubmittedRepliesAreGiven : Type 0
+SubmittedRepliesAreGiven = (settings : Configuration) (tables : List TableState)
+    (workers : List Worker) (ran : HaveRunTheCore settings tables workers) (number tenant : ℕ)
+    (command : Command) (old new worker : Worker) (answer : Answer) →
+    slice_get workers number ≡ Some worker → (seat_of worker).worker ≡ number →
+    Continues old new → Submits old new tenant command answer → Continues new worker →
+    (at : ℕ) × (slice_get ran.one.core.given at ≡ Some (number, answer.place, answer.reply))
+
+-- Where nothing that a worker has announced is unsettled, each of its commands stands in its
+-- history.
+abbrev pub SettledCommandsAreReplayed : Type 0
+SettledCommandsAreReplayed = (worker : Worker) (number : ℕ) → HasSettled worker →
+    number < (seat_of worker).state.announced →
+    (place : ℕ) × (seen : Sighting) × (slice_get (history_of worker) place ≡ Some seen)
+    × (seen.ticket ≡ ticket_of (seat_of worker).worker number)

@@ -5,7 +5,7 @@ ghost use Rattle.mc_model.specs.Replay.{empty_tables};
 ghost use Rattle.mc_model.specs.Settings.{Configuration};
 ghost use Rattle.uc_core.specs.Core.{new_core};
 ghost use Rattle.uc_laws.specs.CoreRun.{core_over};
-ghost use Rattle.uc_refinement.specs.Refinement.{AllDoOneCoreRun, ClosedLogsRunTheCore, NothingIsDecidedBehindAll, OwnHaveTheirReplies, TheyRunTheCore};
+ghost use Rattle.uc_refinement.specs.Refinement.{AllDoOneCoreRun, ClosedLogsRunTheCore, EarlierRepliesAreGiven, NothingIsDecidedBehindAll, OwnHaveTheirReplies, SettledCommandsAreReplayed, SubmittedRepliesAreGiven, TheyRunTheCore};
 
 /// Where all workers of a log have replayed the same number of places, and all that they have
 /// learned, the log's run has decided these places and no others. So a log that is turned over has
@@ -26,7 +26,7 @@ pub fn all_workers_run_the_core()
     ensures opening { (settings : Configuration) →
         core_over settings (empty_tables settings.tenants) ≡ new_core settings }
     // and over any tables, one for each tenant at least, it answers each worker's own commands, where
-    // the workers have one history, with the replies that `Worker::submit` gives.
+    // the workers have one history, with the replies that follow from that history.
     ensures replies { OwnHaveTheirReplies }
     // Where the workers have closed their log, its history is all of the core's log.
     ensures closed { ClosedLogsRunTheCore }
@@ -35,3 +35,19 @@ pub fn all_workers_run_the_core()
     uc_laws::laws_over_tables();
     uc_laws::runs_over_tables_do_what_is_asked();
 }
+
+/// What a worker answered while it served is what the core's run of its log, once this is closed,
+/// gives it at the same place: a reply is never that of an earlier state of the tables, or of a later
+/// one.
+pub fn replies_are_those_of_the_run()
+    // What follows from its history as it was then is given,
+    ensures earlier { EarlierRepliesAreGiven }
+    // and so is what `Worker::submit` has answered.
+    ensures submitted { SubmittedRepliesAreGiven }
+{}
+
+/// What `Worker::submit` says of commands that are settled: these are the ones that the worker has
+/// replayed, not only learned.
+pub fn settled_commands_are_replayed()
+    ensures { SettledCommandsAreReplayed }
+{}

@@ -3,6 +3,9 @@
 //! replayed. Begin with `all_workers_run_the_core`. Nothing here runs.
 #![tactic(auto)]
 
-pub use laws::{all_workers_run_the_core, nothing_is_decided_behind_all};
+pub use laws::{
+    all_workers_run_the_core, nothing_is_decided_behind_all, replies_are_those_of_the_run,
+    settled_commands_are_replayed,
+};
 
 pub mod laws;
