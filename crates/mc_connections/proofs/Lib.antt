@@ -1,4 +1,5 @@
 pub mod Askings
+pub mod Comings
 pub mod Counts
 pub mod EachAnswered
 pub mod Lives

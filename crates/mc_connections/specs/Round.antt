@@ -1,5 +1,5 @@
 -- What a round is, in which a worker serves the connections of its queue; this project's profile.
-use Rattle.std.specs.Prelude.{◌≡◌, ◌⊎◌, ℕ, ◌+◌, ◌-◌, ◌^◌, ◌<◌, ◌≤◌, ◌==◌, ◌&&◌, not, Bool, None, List, [], ◌∷◌, ◌++◌, min}
+use Rattle.std.specs.Prelude.{◌≡◌, ◌⊎◌, ℕ, ◌+◌, ◌-◌, ◌^◌, ◌<◌, ◌≤◌, ◌==◌, ◌&&◌, not, Bool, None, List, [], ◌∷◌, ◌++◌, min, true}
 use Rattle.mio.specs.Event.{event_token, is_error, is_read_closed}
 use Rattle.mio.specs.declared.event.event.Event.{Event}
 use Rattle.fair_queue.specs.Turns.{IsIdle}
@@ -46,6 +46,10 @@ is_wake event = (event_token event).0 == 2 ^ 64 - 1
 -- has the stream failed
 abbrev pub short_of : Event → Bool
 short_of event = not (is_read_closed event) && not (is_error event)
+
+-- the event tells that the peer has closed or that the stream has failed
+abbrev pub TellsEnd : Event → Type 0
+TellsEnd event = (is_read_closed event ≡ true) ⊎ (is_error event ≡ true)
 
 -- if the event is of a connection that one, and no other, came to wait, in its tenant's flow, and
 -- nothing has changed of what is spent; and otherwise all is as it was

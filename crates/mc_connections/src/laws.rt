@@ -1,7 +1,7 @@
 //! What the definitions say of connections, log after log, and the numbers of this profile. A law
 //! is the contract of a function with an empty body, or with calls of the laws from which it
 //! follows.
-ghost use Rattle.std.specs.Prelude.{◌≡◌, ◌↔◌, ◌⊎◌, ◌+◌, ◌*◌, ◌^◌, ◌<◌, [], ◌∷◌, ◌++◌, All, Bool, None, Some, true, ℕ, List, length, slice_get};
+ghost use Rattle.std.specs.Prelude.{◌≡◌, ◌≢◌, ◌↔◌, ◌⊎◌, ◌+◌, ◌*◌, ◌^◌, ◌<◌, [], ◌∷◌, ◌++◌, All, Bool, None, Some, false, true, ℕ, List, length, slice_get};
 ghost use Rattle.mc_conn.specs.Owed.{Mark, Owes, demand_of, is_logged};
 ghost use Rattle.mc_conn.specs.declared.conn.Role.{Role};
 ghost use Rattle.mc_conn.specs.declared.conn.Role.TheVariants.{Admin, Tenant};
@@ -9,11 +9,12 @@ ghost use Rattle.mc_counters.specs.Tallied.{CountedRequest};
 ghost use Rattle.mc_connections.specs.Asking.{HaveBeenAsked};
 ghost use Rattle.mc_connections.specs.InTurn.{HaveServedInTurn, InTurn};
 ghost use Rattle.mc_connections.specs.Life.{OwesInLogs, OwesInParts, WasAnswered, came_of, sent_of};
+ghost use Rattle.mc_connections.specs.Round.{HaveCome, IsOfConnection, TellsEnd};
 ghost use Rattle.mc_connections.specs.Seen.{AreAnsweredFrom, IsAnsweredAmong, IsThere, SeesThenAsks, SplitsAtLast, WasSent, announced_number, history_place};
 ghost use Rattle.mc_connections.specs.Serving.{HasComeTo, answered_between, moved_between, tenant_of};
 ghost use Rattle.mc_connections.specs.Sharing.{OnlyTheTurnGoesOn, OthersTakeOneTurnEach, RoundsAreServes};
 ghost use Rattle.mc_connections.specs.Tallying.{tally_place};
-ghost use Rattle.mc_connections.specs.Waiting.{cost_of, flow_of};
+ghost use Rattle.mc_connections.specs.Waiting.{cost_of, flow_of, short_at};
 ghost use Rattle.mc_connections.specs.Working.{IsEmpty, KeepsPlaces, Standing, Works, standing};
 ghost use Rattle.mc_connections.specs.declared.arrival.Admission.{Admission};
 ghost use Rattle.mc_connections.specs.declared.arrival.Arrival.{Arrival};
@@ -24,7 +25,10 @@ ghost use Rattle.mc_connections.specs.declared.connections.Connections.{Connecti
 ghost use Rattle.mc_connections.specs.declared.connections.TheConstants.{MOST_OF_ALL};
 ghost use Rattle.mc_connections.specs.declared.places.TheConstants.{MOST_ADMINS, MOST_CONNECTIONS};
 ghost use Rattle.mc_connections.specs.declared.waiting.TheConstants.{BYTES_OF_A_REQUEST, BYTES_OF_A_SERVE, QUANTUM, ROUND};
+ghost use Rattle.mc_connections.specs.declared.waiting.Waiting.{Waiting};
 ghost use Rattle.mc_model.specs.declared.request.Request.{Request};
+ghost use Rattle.mio.specs.Event.{event_token};
+ghost use Rattle.mio.specs.declared.event.event.Event.{Event};
 ghost use Rattle.uc_worker.specs.Going.{CatchesUp, Continues};
 ghost use Rattle.uc_worker.specs.Worker.{IsFull, tenants_of};
 ghost use Rattle.uc_worker.specs.declared.worker.Worker.{Worker};
@@ -96,6 +100,20 @@ pub fn others_take_one_turn_each()
 /// it, and only while that turn goes on.
 pub fn a_round_ends_with_a_turn()
     ensures { OnlyTheTurnGoesOn }
+{}
+
+/// Once an event has told of a connection that its peer has closed or that its stream has failed,
+/// a read that fills less than its buffer isn't taken for the last one, whatever other events come
+/// before the connection is served: so its end is read, of which no other event tells.
+pub fn an_end_that_was_told_is_read()
+    ensures ended { (connections : Connections) (first last : Waiting) (events : List Event)
+        (place : ℕ) (event : Event) → HaveCome connections first events last →
+        slice_get events place ≡ Some event → IsOfConnection event → TellsEnd event →
+        short_at last (event_token event).0 ≢ Some true }
+    // Nor where that was noted before these events came.
+    ensures stays { (connections : Connections) (first last : Waiting) (events : List Event)
+        (key : ℕ) → HaveCome connections first events last →
+        short_at first key ≡ Some false → short_at last key ≡ Some false }
 {}
 
 /// Work adds up: none, work after work, and an arrival or the worker's catching up after work. The
