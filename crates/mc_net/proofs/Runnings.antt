@@ -1,5 +1,5 @@
 -- Worker threads, what came back of them, and their event loops, place by place.
-use Rattle.std.proofs.Common.{◌≡◌, ℕ, ◌<◌, suc, Bool, true, false, List, [], ◌∷◌, length, map, ap, refl, sym, subst, ◌++◌, arith, slice_index_or, take, drop, All, Bor, ◌∙◌, Ok, Result, IfOk, inl, inr, ⊎_elim}
+use Rattle.std.proofs.Common.{◌≡◌, ℕ, ◌<◌, suc, Bool, true, false, List, [], ◌∷◌, length, map, ap, refl, sym, subst, ◌++◌, arith, slice_index_or, take, drop, All, Bor, ◌∙◌, Ok, Err, Result, MatchResult, IfErr, inl, inr, ⊎_elim}
 use Rattle.std.specs.List.{AllZip}
 use Rattle.std.proofs.Math.Seq.{take-append_seam}
 use Rattle.std.proofs.lemmas.List.Elements.{AllZip-get_or, All-cons, All-head, All-nil, All-tail, length_all_zip}
@@ -9,7 +9,7 @@ use Rattle.mc_connections.specs.Life.{WasAnswered}
 use Rattle.mc_connections.specs.Working.{IsEmpty, Standing, Works, standing}
 use Rattle.mc_connections.specs.declared.connections.Connections.{Connections}
 use Rattle.mc_net.specs.Returning.{HasAnswered, HasBeenAsked, HasServed, returned_of, returned_worker}
-use Rattle.mc_net.specs.Running.{EndsWith, HasBeenServedBy, HasRun, HasServedAt, HasWorked, HaveRun, HaveServedAt, IsEmptyLoop, IsFor, IsNewLoop, each_followed_by, event_loops_of, no_more, one_more, standing_at, workers_of}
+use Rattle.mc_net.specs.Running.{EndsWith, HasBeenServedBy, HasRun, HasServedAt, HasStopped, HasWorked, HaveRun, HaveServedAt, IsEmptyLoop, IsFor, IsNewLoop, each_followed_by, event_loops_of, no_more, one_more, standing_at, workers_of}
 use Rattle.mc_net.specs.declared.ended.Ended.{Ended}
 use Rattle.mc_net.specs.declared.ended.Ended.TheVariants.{Done, Full}
 use Rattle.mc_net.specs.declared.event_loop.EventLoop.{EventLoop}
@@ -47,17 +47,27 @@ pub ends_with : {G : Type 0} (last : Ended) (worker_thread : WorkerThread G) (fo
 ends_with last worker_thread Done is at_least = inl is
 ends_with last worker_thread Full is at_least = inr (is, at_least refl)
 
+-- what holds in any case holds if a loop has failed
+pub if_failed : {X E : Type 0} {P : Type 0} (result : Result X E) → P → IfErr result (λ _. P)
+if_failed (Ok x) holds = tt
+if_failed (Err error) holds = holds
+
+-- a loop that has failed had worked up to then
+pub has_stopped : (until : Bool) (before after : Standing) → Works until before after → HasStopped until before after
+has_stopped until before after works = record { last = after; works = works; worker = refl; left = inl refl }
+
 -- a worker whose loop has ended well
 served_at : {G : Type 0} (until : Bool) (ended : Ended) (old new : WorkerThread G) → HasRun until old new → EndsWith ended new →
     HasServedAt until ended old.worker old.event_loop new.worker new.event_loop
 served_at {G} until ended old new run well =
     let worked = HasWorked until (standing_at old.worker old.event_loop) (standing_at new.worker new.event_loop) in
+    let stopped = λ (halt : Halt). HasStopped until (standing_at old.worker old.event_loop) (standing_at new.worker new.event_loop) in
     ⊎_elim
     (λ (done : new.outcome ≡ Ok Done).
-    let it : worked Done = subst (λ (outcome : Result Ended Halt). IfOk outcome worked) done run in
+    let it : worked Done = subst (λ (outcome : Result Ended Halt). MatchResult outcome worked stopped) done run in
     record { works = it.works; over = inl it.over })
     (λ full.
-    let it : worked Full = subst (λ (outcome : Result Ended Halt). IfOk outcome worked) full.0 run in
+    let it : worked Full = subst (λ (outcome : Result Ended Halt). MatchResult outcome worked stopped) full.0 run in
     record { works = it.works; over = inr (it.over, full.1) })
     well
 

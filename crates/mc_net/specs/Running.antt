@@ -1,5 +1,5 @@
 -- What the loops leave; this project's profile.
-use Rattle.std.specs.Prelude.{◌≡◌, ◌<◌, ◌⊎◌, ℕ, Bool, true, List, [], ◌∷◌, All, length, map, slice_index_or, IfOk, Ok}
+use Rattle.std.specs.Prelude.{◌≡◌, ◌<◌, ◌⊎◌, ℕ, Bool, true, List, [], ◌∷◌, All, length, map, slice_index_or, MatchResult, Ok}
 use Rattle.mc_conn.specs.declared.conn.Role.{Role}
 use Rattle.mc_connections.specs.InTurn.{HaveServedInTurn, InTurn, followed_by}
 use Rattle.mc_connections.specs.Working.{IsEmpty, IsNewFor, KeepsPlaces, Standing, Works, standing}
@@ -36,6 +36,10 @@ IsNewLoop tenants event_loop = IsNewFor tenants event_loop.ready.connections
 abbrev pub KeepsAt : ℕ → EventLoop → Type 0
 KeepsAt reserve event_loop = KeepsPlaces reserve event_loop.ready.connections
 
+-- at the event loop a log is closed once its commands keep this many bytes
+abbrev pub ClosesAt : ℕ → EventLoop → Type 0
+ClosesAt bytes event_loop = event_loop.most_bytes ≡ bytes
+
 -- no connection is left at the event loop
 abbrev pub IsEmptyLoop : EventLoop → Type 0
 IsEmptyLoop event_loop = IsEmpty event_loop.ready.connections
@@ -63,11 +67,19 @@ pub record HasWorked (until : Bool) (before after : Standing) (ended : Ended) : 
   pub works : Works until before after
   pub over : EndsAs until ended after
 
--- if a thread's loop has ended well, its worker has worked to that end
+-- A loop that has failed had worked up to then, and at most closed its connections afterwards.
+pub record HasStopped (until : Bool) (before after : Standing) : Type 0 where
+  pub last : Standing
+  pub works : Works until before last
+  pub worker : after.worker ≡ last.worker
+  pub left : (after.connections ≡ last.connections) ⊎ IsEmpty after.connections
+
+-- a thread's loop has ended well and its worker has worked to that end, or it has failed
 abbrev pub HasRun : {G : Type 0} → Bool → WorkerThread G → WorkerThread G → Type 0
 HasRun until old new =
-    IfOk new.outcome (HasWorked until (standing_at old.worker old.event_loop)
-    (standing_at new.worker new.event_loop))
+    let before = standing_at old.worker old.event_loop in
+    let after = standing_at new.worker new.event_loop in
+    MatchResult new.outcome (HasWorked until before after) (λ _. HasStopped until before after)
 
 -- the same for each thread
 pub record HaveRun {G : Type 0} (until : Bool) (old new : List (WorkerThread G)) : Type 0 where

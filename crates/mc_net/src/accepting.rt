@@ -5,11 +5,10 @@ ghost use Rattle.mc_net.specs.Beginning.{HaltsServing};
 use crate::beginning::Begin;
 use crate::halt::Halt;
 use crate::handing::{Accepted, accept_one};
-use crate::listener::RoleListener;
+use crate::listener::{BoundListener, RoleListener};
 use crate::mailbox::{Mailboxes, Signal};
 use mc_connections::is_admin;
 use mc_model::Fault;
-use mio::net::TcpListener;
 use mio::unix::SourceFd;
 use mio::{Events, Interest, Poll, Token};
 use std::alloc::Global;
@@ -33,7 +32,7 @@ const POLLS_TO_BEGIN: u32 = 10_000;
 /// The listeners, and the poll that reports their streams.
 #[derive(Drop)]
 pub(crate) struct Acceptor {
-    pub(crate) listeners: Vec<RoleListener<TcpListener>>,
+    pub(crate) listeners: Vec<RoleListener<BoundListener>>,
     poll: Poll,
     events: Events,
     // How many streams have been handed over, of tenants and administrators.
@@ -58,10 +57,11 @@ impl Acceptor {
     pub(crate) fn new(
         alloc: Global,
         poll: Poll,
-        listeners: Vec<RoleListener<TcpListener>>,
+        listeners: Vec<RoleListener<BoundListener>>,
         most: u64,
     ) -> Result<Acceptor, Halt>
-        ensures { IfOk result (λ acceptor. acceptor.listeners ≡ listeners) }
+        ensures listeners { IfOk result (λ acceptor. acceptor.listeners ≡ listeners) }
+        ensures most { IfOk result (λ acceptor. acceptor.most ≡ most) }
     {
         let events = Events::with_capacity(alloc, EVENTS)?;
         Ok(Acceptor {
@@ -101,7 +101,7 @@ impl Acceptor {
             let Some(open) = self.listeners.get(number) else {
                 return Ok(());
             };
-            let counts = !is_admin(&open.role);
+            let counts = !is_admin(open.role());
             let mut handed = self.handed;
             let accepted = accept_one(rt, open, &mailboxes.of_workers, &mut handed)?;
             self.handed = handed;
@@ -196,7 +196,7 @@ impl Acceptor {
             let Some(listener) = self.listeners.get(number) else {
                 break;
             };
-            let descriptor = listener.socket.as_raw_fd();
+            let descriptor = listener.as_raw_fd();
             let registry = self.poll.registry();
             let token = Token(number);
             let registered = registry.register(

@@ -1,11 +1,13 @@
 //! A worker's event loop.
-ghost use Rattle.std.specs.Prelude.{◌≡◌, ◌↔◌, ◌⊎◌, ◌*◌, ◌≤◌, Bool, false, length, IfOk, IsTrue, None, Some};
-ghost use Rattle.mc_connections.specs.Round.{NoConnectionWaits};
+ghost use Rattle.std.specs.List.{list_any};
+ghost use Rattle.std.specs.Prelude.{◌≡◌, ◌↔◌, ◌⊎◌, ◌*◌, ◌≤◌, Bool, false, length, IfErr, IfOk, IsTrue, None, Some};
+ghost use Rattle.mc_connections.specs.Round.{NoConnectionWaits, is_wake};
 ghost use Rattle.mc_connections.specs.Serving.{HasComeTo};
 ghost use Rattle.mc_connections.specs.Working.{IsNewFor, KeepsPlaces, Works};
 ghost use Rattle.mc_connections.specs.declared.arrival.Admission.{Admission};
 ghost use Rattle.mc_connections.specs.declared.places.TheConstants.{MOST_CONNECTIONS};
-ghost use Rattle.mc_net.specs.Running.{HasWorked, standing_at};
+ghost use Rattle.mc_net.specs.Running.{ClosesAt, HasStopped, HasWorked, standing_at};
+ghost use Rattle.mio.specs.Events.{items};
 ghost use Rattle.uc_worker.specs.Going.{CatchesUp};
 ghost use Rattle.uc_worker.specs.Steps.{HasReadOn};
 ghost use Rattle.uc_worker.specs.Worker.{IsClosing, IsUpToDate, seat_of, tenants_of};
@@ -101,6 +103,7 @@ impl EventLoop {
         requires { tenants * reserve ≤ MOST_CONNECTIONS }
         ensures new { IfOk result (λ event_loop. IsNewFor tenants event_loop.ready.connections) }
         ensures reserve { IfOk result (λ event_loop. KeepsPlaces reserve event_loop.ready.connections) }
+        ensures bytes { IfOk result (ClosesAt most_bytes) }
     {
         let events = Events::with_capacity(alloc, EVENTS)?;
         let ready = ReadyQueue::new(alloc, tenants, reserve)?;
@@ -228,8 +231,10 @@ impl EventLoop {
         number: usize,
     ) -> Result<bool, Halt>
         requires { self.old.ready.connections.tenants ≡ length (tenants_of worker.old) }
-        ensures { Works until_done (standing_at worker.old self.old)
+        ensures works { Works until_done (standing_at worker.old self.old)
             (standing_at worker.new self.new) }
+        ensures woken { IfOk result
+            (λ is_woken. is_woken ≡ list_any is_wake (items self.old.events)) }
     {
         mc_connections::laws::work_adds_up();
         let known = worker.history().len();
@@ -253,9 +258,10 @@ impl EventLoop {
     /// `RETRY_MILLIS` if memory was refused while the worker caught up; and otherwise until an
     /// event comes.
     fn timeout(&self, may_have_arrivals: bool) -> Option<Duration>
-        // It waits without an end only where nothing is left that no event would tell of.
-        ensures { result ≡ None → (may_have_arrivals ≡ false) × NoConnectionWaits self.now.ready
-            × (self.now.is_behind ≡ false) × (self.now.is_starved ≡ false) }
+        // It waits without an end where nothing is left that no event would tell of, and only there.
+        ensures { (result ≡ None) ↔ (may_have_arrivals ≡ false)
+            × NoConnectionWaits self.now.ready × (self.now.is_behind ≡ false)
+            × (self.now.is_starved ≡ false) }
     {
         if may_have_arrivals || !self.ready.may_wait() || self.is_behind {
             return Some(Duration::ZERO);
@@ -291,6 +297,9 @@ impl EventLoop {
     ) -> Result<Ended, Halt>
         requires { self.old.ready.connections.tenants ≡ length (tenants_of worker.old) }
         ensures worked { IfOk result (HasWorked until_done
+            (standing_at worker.old self.old) (standing_at worker.new self.new)) }
+        // Also where it fails, it has done nothing else.
+        ensures stopped { IfErr result (λ _. HasStopped until_done
             (standing_at worker.old self.old) (standing_at worker.new self.new)) }
         ensures tenants { self.new.ready.connections.tenants ≡ length (tenants_of worker.new) }
     {

@@ -8,7 +8,7 @@ ghost use Rattle.mc_connections.specs.declared.places.TheConstants.{MOST_CONNECT
 ghost use Rattle.mc_net.specs.Beginning.{HaltsServing};
 ghost use Rattle.mc_net.specs.Halting.{IsNetworkFault};
 ghost use Rattle.mc_net.specs.Returning.{returned_of};
-ghost use Rattle.mc_net.specs.Running.{HasBeenServedBy, HaveServedAt, IsEmptyLoop, IsFor, IsNewLoop, KeepsAt, each_followed_by, listeners_of};
+ghost use Rattle.mc_net.specs.Running.{ClosesAt, HasBeenServedBy, HaveServedAt, IsEmptyLoop, IsFor, IsNewLoop, KeepsAt, each_followed_by, listeners_of};
 ghost use Rattle.uc_worker.specs.AllWorkers.{AreOnOneRun};
 ghost use Rattle.uc_worker.specs.Going.{Continues};
 
@@ -17,7 +17,7 @@ use crate::beginning::Begin;
 use crate::ended::Ended;
 use crate::event_loop::EventLoop;
 use crate::halt::Halt;
-use crate::listener::RoleListener;
+use crate::listener::{BoundListener, RoleListener};
 use crate::mailbox::{Mailbox, Mailboxes};
 use crate::running::{first_failure, on_one_run, parted, run_all, threads_of};
 use crate::worker_thread::Returned;
@@ -26,7 +26,6 @@ use mc_connections::MOST_CONNECTIONS;
 use mc_counters::Publisher;
 use mc_model::Fault;
 use mio::Poll;
-use mio::net::TcpListener;
 use std::alloc::{AllocError, Global};
 use std::mem;
 use std::net::Net;
@@ -83,6 +82,7 @@ fn new_event_loops<R: Net>(
     ensures many { IfOk result (λ pair. vec_len pair.1 ≡ count) }
     ensures new { IfOk result (λ pair. All (IsNewLoop tenants) pair.1.items) }
     ensures reserve { IfOk result (λ pair. All (KeepsAt reserve) pair.1.items) }
+    ensures bytes { IfOk result (λ pair. All (ClosesAt log_bytes) pair.1.items) }
 {
     let mut mailboxes = Vec::new(alloc);
     let mut event_loops = Vec::new(alloc);
@@ -107,13 +107,13 @@ fn new_event_loops<R: Net>(
 /// Returns `Memory` if memory runs out.
 fn role_listeners(
     alloc: Global,
-    listeners: Vec<(Role, TcpListener)>,
-) -> Result<Vec<RoleListener<TcpListener>>, Halt>
+    listeners: Vec<(Role, BoundListener)>,
+) -> Result<Vec<RoleListener<BoundListener>>, Halt>
     ensures { IfOk result (λ all. listeners_of all.items ≡ listeners.items) }
 {
     let mut all = Vec::new(alloc);
     for (role, socket) in listeners {
-        all.push(RoleListener { role, socket })?;
+        all.push(RoleListener::new(role, socket))?;
     }
     Ok(all)
 }
@@ -129,7 +129,7 @@ impl Front {
     pub fn new<R: Net>(
         rt: &R,
         alloc: Global,
-        listeners: Vec<(Role, TcpListener)>,
+        listeners: Vec<(Role, BoundListener)>,
         connections: u64,
         workers: usize,
         tenants: usize,
@@ -145,6 +145,8 @@ impl Front {
         // Nobody has been served yet.
         ensures new { IfOk result (λ front. All (IsNewLoop tenants) front.event_loops.items) }
         ensures reserve { IfOk result (λ front. All (KeepsAt reserve) front.event_loops.items) }
+        ensures bytes { IfOk result (λ front. All (ClosesAt log_bytes) front.event_loops.items) }
+        ensures connections { IfOk result (λ front. front.acceptor.most ≡ connections) }
         ensures listeners { IfOk result
             (λ front. listeners_of front.acceptor.listeners.items ≡ listeners.items) }
         ensures faults { MatchResult result (λ _. ⊤) IsNetworkFault }

@@ -14,7 +14,7 @@ pub use ended::Ended;
 pub use front::Front;
 pub use halt::Halt;
 pub use handing::{Accepted, Receive, accept_one, hand_over};
-pub use listener::{Listen, RoleListener};
+pub use listener::{BoundListener, Listen, RoleListener};
 pub use serving::{into_workers, serve};
 pub use worker_thread::Returned;
 

@@ -1,5 +1,5 @@
 //! Listeners, each with the role of those who connect there.
-ghost use Rattle.std.specs.Prelude.{⊤, IfOk};
+ghost use Rattle.std.specs.Prelude.{◌≡◌, ⊤, IfOk};
 ghost use Rattle.mc_net.specs.Handing.{IsArrivalOf};
 
 use mc_conn::Role;
@@ -7,6 +7,8 @@ use mc_connections::Arrival;
 use mio::net::{TcpListener, TcpStream};
 use std::io;
 use std::io::ErrorKind;
+use std::net::{Net, SocketAddr, SocketAddrV4};
+use std::os::fd::{AsRawFd, RawFd};
 
 /// Accepts streams.
 pub trait Listen {
@@ -22,14 +24,54 @@ pub trait Listen {
         ensures { IfOk result (λ stream. accepted_by self.now stream) };
 }
 
-impl Listen for TcpListener {
+/// A socket, and the address at which it was bound.
+///
+/// Only `bind` makes one, and neither part can be changed: so whoever hands listeners on hands each
+/// address on with the socket that is bound there.
+#[derive(Drop)]
+pub struct BoundListener {
+    address: SocketAddrV4,
+    socket: TcpListener,
+}
+
+impl BoundListener {
+    /// Binds a socket at this address. Port 0 asks for any port that is free.
+    ///
+    /// Returns the system's error if it can't be bound there.
+    pub fn bind<R: Net>(rt: &R, address: SocketAddrV4) -> io::Result<BoundListener>
+        ensures { IfOk result (λ listener. listener.address ≡ address) }
+    {
+        let socket = TcpListener::bind(rt, SocketAddr::V4(address))?;
+        Ok(BoundListener { address, socket })
+    }
+
+    /// Returns the port at which the socket listens: that of its address, unless that is 0.
+    ///
+    /// Returns the system's error if it can't be found out.
+    pub fn port(&self) -> io::Result<u16> {
+        Ok(self.socket.local_addr()?.port())
+    }
+
+    /// Returns the socket alone.
+    pub fn into_socket(self) -> TcpListener {
+        self.socket
+    }
+}
+
+impl AsRawFd for BoundListener {
+    fn as_raw_fd(&self) -> RawFd {
+        self.socket.as_raw_fd()
+    }
+}
+
+impl Listen for BoundListener {
     type Stream = TcpStream;
 
     // Nothing is proved about the system's streams.
     ghost accepted_by = { λ _ _. ⊤ };
 
     fn accept_stream(&self) -> io::Result<TcpStream> {
-        let (stream, _) = self.accept()?;
+        let (stream, _) = self.socket.accept()?;
         // Without it a reply may wait for an acknowledgement. If it is refused, the bytes are still
         // the same.
         let _ = stream.set_nodelay(true);
@@ -38,10 +80,34 @@ impl Listen for TcpListener {
 }
 
 /// A listener, and the role of those who connect there: a tenant, or an administrator.
+///
+/// The two stay together, and its streams come from `accept` alone, each with this role.
 #[derive(Drop)]
 pub struct RoleListener<L> {
-    pub role: Role,
-    pub socket: L,
+    role: Role,
+    socket: L,
+}
+
+impl<L> RoleListener<L> {
+    /// Returns the listener of those who have this role.
+    pub fn new(role: Role, socket: L) -> RoleListener<L>
+        ensures { (result.role ≡ role) × (result.socket ≡ socket) }
+    {
+        RoleListener { role, socket }
+    }
+
+    /// Returns the role.
+    pub fn role(&self) -> &Role
+        ensures { result.now ≡ self.now.role }
+    {
+        &self.role
+    }
+}
+
+impl<L: AsRawFd> AsRawFd for RoleListener<L> {
+    fn as_raw_fd(&self) -> RawFd {
+        self.socket.as_raw_fd()
+    }
 }
 
 impl<L: Listen> RoleListener<L> {
@@ -57,7 +123,7 @@ impl<L: Listen> RoleListener<L> {
             Err(_) => return Err(io::Error::from(ErrorKind::OutOfMemory)),
         };
         match self.socket.accept_stream() {
-            Ok(stream) => Ok(Arrival { role, stream }),
+            Ok(stream) => Ok(Arrival::new(role, stream)),
             Err(error) => Err(error),
         }
     }

@@ -9,10 +9,10 @@ ghost use Rattle.mc_net.specs.Returning.{HasAnswered, HasBeenAsked, HasServed, r
 
 use crate::beginning::Begin;
 use crate::front::Front;
+use crate::listener::BoundListener;
 use crate::worker_thread::Returned;
 use mc_conn::Role;
 use mc_model::Fault;
-use mio::net::TcpListener;
 use std::alloc::{AllocError, Global};
 use std::net::Net;
 use std::sync::Wait;
@@ -55,7 +55,7 @@ pub fn serve<'a, R: Threads + Wait + Net + Sync, G: Gate + Send + Drop, B: Begin
     alloc: Global,
     log: &'a Log,
     workers: Vec<Worker<'a>>,
-    listeners: Vec<(Role, TcpListener)>,
+    listeners: Vec<(Role, BoundListener)>,
     connections: u64,
     gates: Vec<G>,
     begin: &B,

@@ -7,12 +7,11 @@ ghost use Rattle.uc_log.specs.Passes.{IsUnusedPass};
 use crate::signals::Holding;
 use mc_conn::Role;
 use mc_model::{Fault, Limits, Names, Settings, TenantId};
-use mc_net::{Begin, into_workers, serve};
-use mio::net::TcpListener;
+use mc_net::{Begin, BoundListener, into_workers, serve};
 use std::alloc::{AllocError, Global};
 use std::io;
 use std::io::ErrorKind;
-use std::net::{Ipv4Addr, Net, SocketAddr};
+use std::net::{Ipv4Addr, Net, SocketAddr, SocketAddrV4};
 use std::sync::Wait;
 use std::thread::Threads;
 use uc_cells::Seen;
@@ -26,15 +25,14 @@ const PLACES: u64 = 1_024;
 #[derive(Drop)]
 pub(crate) struct House {
     pub(crate) quotas: Vec<Limits>,
-    pub(crate) listeners: Vec<(Role, TcpListener)>,
+    pub(crate) listeners: Vec<(Role, BoundListener)>,
     ghost known: { All (λ listener. IsAmong listener.0 (length quotas.items)) listeners.items } by { Prim.hlevel (props, IsAmong-prop) },
 }
 
 /// Returns a listener at a free port, and its address.
-fn bound<R: Net>(rt: &R) -> io::Result<(TcpListener, SocketAddr)> {
-    let any = SocketAddr::from((Ipv4Addr::LOCALHOST, 0));
-    let listener = TcpListener::bind(rt, any)?;
-    let address = listener.local_addr()?;
+fn bound<R: Net>(rt: &R) -> io::Result<(BoundListener, SocketAddr)> {
+    let listener = BoundListener::bind(rt, SocketAddrV4::new(Ipv4Addr::LOCALHOST, 0))?;
+    let address = SocketAddr::from((Ipv4Addr::LOCALHOST, listener.port()?));
     Ok((listener, address))
 }
 

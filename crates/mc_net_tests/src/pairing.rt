@@ -41,11 +41,11 @@ impl Receive<u8> for Pigeonhole {
     fn receive<R: Wait>(&self, rt: &R, arrival: Arrival<u8>) -> Result<(), Halt>
         ensures { OnOk result ⊤ }
     {
-        let number = match &arrival.role {
+        let number = match arrival.role() {
             Role::Tenant(tenant) => tenant.number(),
             Role::Admin(_) => u8::MAX,
         };
-        let pair = (number, arrival.stream);
+        let pair = (number, *arrival.stream());
         self.kept.lock(rt).push(pair)?;
         Ok(())
     }
@@ -66,14 +66,8 @@ fn streams_go_round_with_their_tenants(rt: HostRuntime) -> Result<(), Fail> {
     let alloc = rt.alloc();
     let one = TenantId::new(3).ok_or("no tenant")?;
     let two = TenantId::new(5).ok_or("no tenant")?;
-    let first = RoleListener {
-        role: Role::Tenant(one),
-        socket: Numbered { number: 30 },
-    };
-    let second = RoleListener {
-        role: Role::Tenant(two),
-        socket: Numbered { number: 50 },
-    };
+    let first = RoleListener::new(Role::Tenant(one), Numbered { number: 30 });
+    let second = RoleListener::new(Role::Tenant(two), Numbered { number: 50 });
     let places = [hole(alloc), hole(alloc), hole(alloc)];
     let mut done = 0;
     for number in 0..4u64 {
@@ -95,10 +89,7 @@ fn an_administrators_streams_are_an_administrators(rt: HostRuntime) -> Result<()
     let alloc = rt.alloc();
     let mut names = Vec::new(alloc);
     names.push(Name::new(alloc, b"shop")?.ok_or("no name")?)?;
-    let listener = RoleListener {
-        role: Role::Admin(Names::new(names)?),
-        socket: Numbered { number: 7 },
-    };
+    let listener = RoleListener::new(Role::Admin(Names::new(names)?), Numbered { number: 7 });
     let places = [hole(alloc)];
     let mut done = 0;
     for _ in 0..2u8 {
@@ -131,10 +122,7 @@ impl Listen for Refusing {
 
 /// Returns a tenant's listener that refuses for this reason.
 fn refusing_listener(tenant: TenantId, kind: ErrorKind) -> RoleListener<Refusing> {
-    RoleListener {
-        role: Role::Tenant(tenant),
-        socket: Refusing { kind },
-    }
+    RoleListener::new(Role::Tenant(tenant), Refusing { kind })
 }
 
 #[test]
@@ -152,10 +140,7 @@ fn only_streams_are_counted(rt: HostRuntime) -> Result<(), Fail> {
     assert_eq!(rt; accept_one(&rt, &idle, &places, &mut done)?, Accepted::None);
     assert_eq!(rt; done, 1);
     assert!(rt; holds(&rt, &places[0], &[]) && holds(&rt, &places[1], &[]));
-    let open = RoleListener {
-        role: Role::Tenant(tenant),
-        socket: Numbered { number: 30 },
-    };
+    let open = RoleListener::new(Role::Tenant(tenant), Numbered { number: 30 });
     assert_eq!(rt; accept_one(&rt, &open, &places, &mut done)?, Accepted::One);
     assert_eq!(rt; done, 2);
     assert!(rt; holds(&rt, &places[1], &[(3, 30)]));

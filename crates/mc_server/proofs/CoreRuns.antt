@@ -3,16 +3,17 @@ use Rattle.std.proofs.Common.{◌≡◌, ◌∙◌, ℕ, ◌+◌, zero, suc, Lis
 use Rattle.std.proofs.lemmas.List.Elements.{All-cons, All-head, All-tail}
 use Rattle.std.proofs.lemmas.Option.{get_or_from_slice_get, none-some, same_Some, slice_get_within}
 use Rattle.std.specs.List.{AllZip}
+use Rattle.mc_conn.specs.Onward.{own_sighting}
 use Rattle.mc_model.specs.Settings.{Configuration}
 use Rattle.mc_model.specs.State.{TableState}
 use Rattle.mc_server.proofs.LogRuns.{all_on, workers_back}
 use Rattle.mc_server.proofs.NetworkRuns.{are_workers}
-use Rattle.mc_server.specs.CoreRuns.{ClosedLogsAreCoreRuns, ClosedLogsDecidedNoMore, LastLogsAreCoreRuns, LastLogsComeBackOnCoreRuns}
+use Rattle.mc_server.specs.CoreRuns.{ClosedLogsAreCoreRuns, ClosedLogsDecidedNoMore, LastLogsAreCoreRuns, LastLogsComeBackOnCoreRuns, OwedRepliesAreGiven}
 use Rattle.mc_server.specs.Crew.{AreWorkersOf, HaveClosed, number_of}
 use Rattle.mc_server.specs.Listeners.{CountsFrom}
 use Rattle.mc_server.specs.Logs.{AreOpenedOver, ServesInTwo}
 use Rattle.uc_log.specs.declared.log.Log.{Log}
-use Rattle.uc_refinement.specs.Refinement.{AllDoOneCoreRun, AreAllOf, AreOver, ClosedLogsRunTheCore, DoOneCoreRun, HaveRunTheCore, NothingIsDecidedBehindAll}
+use Rattle.uc_refinement.specs.Refinement.{AllDoOneCoreRun, AreAllOf, AreOver, ClosedLogsRunTheCore, DoOneCoreRun, EarlierRepliesAreGiven, HaveRunTheCore, NothingIsDecidedBehindAll}
 use Rattle.uc_worker.specs.Going.{Continues}
 use Rattle.uc_worker.specs.Worker.{openings_of}
 use Rattle.uc_worker.specs.declared.worker.Worker.{Worker}
@@ -87,3 +88,8 @@ last_logs_back law settings most number were =
     let back = workers_back settings were.logs were.places were.all were.served were.serves in
     subst (λ (known : Configuration). DoOneCoreRun known were.serves.tables were.served) back.opened
     (law were.serves.tables were.serves.log were.served (are_all settings were.serves.log were.served back) were.run)
+
+-- what a connection was owed for a command is what the run gives
+pub owed_replies : EarlierRepliesAreGiven → OwedRepliesAreGiven
+owed_replies law settings tables workers ran number tenant command reply early worker from to placed at its on =
+    law settings tables workers ran number placed.place early worker (own_sighting early from.number tenant command) reply at on placed.stands (sym on.same.1 ∙ its) placed.reply_is

@@ -6,6 +6,7 @@ pub mod Meetings
 pub mod NetworkRuns
 pub mod NameParts
 pub mod Numbered
+pub mod OwnListeners
 pub mod OwnOrder
 mod NetworkRows
 pub mod TenantForms

@@ -23,7 +23,7 @@ use Rattle.mc_net.specs.declared.event_loop.EventLoop.{EventLoop}
 use Rattle.mc_net.specs.declared.front.Front.{Front}
 use Rattle.mc_server.proofs.NetworkRuns.{are_workers}
 use Rattle.mc_server.specs.Crew.{AreWorkersOf}
-use Rattle.mc_server.specs.Logs.{CanBeFollowed, Closes, EndsThere, IsAnsweredBy, IsFrontOf, ServesInTwo, ServesLast, WereServed}
+use Rattle.mc_server.specs.Logs.{CanBeFollowed, Closes, EndsThere, IsAnsweredBy, IsFrontOf, ServesInTwo, ServesLast, WereServed, WereServedAt}
 use Rattle.uc_worker.specs.Cited.{entries}
 use Rattle.uc_log.specs.declared.log.Log.{Log}
 use Rattle.uc_worker.specs.Cited.{Sighting}
@@ -164,7 +164,7 @@ all_answered answered asked (x ∷ xs) (z ∷ zs) by over = (
   all_answered answered asked xs zs by.1 (All-tail IsEmptyLoop z zs over),
 )
 
-pub were_served : AreAnswered → AreAsked → (settings : Configuration) (most logs places last number : ℕ) (front : Front) → IsFrontOf settings front → EndsThere settings logs places last front →
+were_served : AreAnswered → AreAsked → (settings : Configuration) (most logs places last number : ℕ) (front : Front) → IsFrontOf settings front → EndsThere settings logs places last front →
     (most ≡ 0) ⊎ (logs < most) → number ≡ places + last → WereServed settings most number
 were_served answered asked settings most logs places last number front fits ends few total = record {
   logs = logs;
@@ -181,6 +181,15 @@ were_served answered asked settings most logs places last number front fits ends
   ended = map ended_at front.event_loops.items;
   answered = all_answered answered asked ends.all front.event_loops.items ends.by ends.over;
   in_total = total;
+}
+
+pub were_served_at : AreAnswered → AreAsked → (settings : Configuration) (most logs places last number : ℕ) (front : Front) → IsFrontOf settings front → EndsThere settings logs places last front →
+    (most ≡ 0) ⊎ (logs < most) → number ≡ places + last → WereServedAt settings most number front
+unfolding were_served
+were_served_at answered asked settings most logs places last number front fits ends few total = record {
+  were = were_served answered asked settings most logs places last number front fits ends few total;
+  by = ends.by;
+  over = ends.over;
 }
 
 -- at a new front nobody has served yet

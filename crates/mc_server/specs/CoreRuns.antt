@@ -3,9 +3,12 @@
 -- an end; that it is cut into logs is this project's profile.
 use Rattle.std.specs.List.{AllZip}
 use Rattle.std.specs.Prelude.{◌≡◌, ◌<◌, ◌≤◌, ℕ, Bool, List, Some, length, slice_get}
+use Rattle.mc_conn.specs.Owed.{IsPlaced, Mark}
 use Rattle.mc_connections.specs.Seen.{SeesThenAsks, announced_number, history_place}
 use Rattle.mc_connections.specs.Working.{Standing, Works}
+use Rattle.mc_model.specs.declared.command.Command.{Command}
 use Rattle.mc_model.specs.declared.id.Ticket.{Ticket}
+use Rattle.mc_model.specs.declared.reply.Reply.{Reply}
 use Rattle.mc_model.specs.Legal.{ticket_of}
 use Rattle.mc_model.specs.Settings.{Configuration}
 use Rattle.mc_model.specs.State.{TableState}
@@ -84,3 +87,15 @@ RunsKeepSeenOrder = (settings : Configuration) (tables : List TableState)
     (announced_number sees.seen.answer)
     × StandsAt one.log.decided worker (history_place sees.asks) (announced_number sees.asks)
     × (history_place sees.seen.answer < history_place sees.asks)
+
+-- A reply that is owed for a command which a worker had taken at some time, over its history as it
+-- was then, is what the run of its log, once that is closed, gives the worker at the place where the
+-- command stands.
+abbrev pub OwedRepliesAreGiven : Type 0
+OwedRepliesAreGiven = (settings : Configuration) (tables : List TableState)
+    (workers : List Worker) (ran : HaveRunTheCore settings tables workers) (number tenant : ℕ)
+    (command : Command) (reply : Reply) (early worker : Worker) (from to : Mark)
+    (placed : IsPlaced early tenant from command reply to) →
+    slice_get workers number ≡ Some worker → (seat_of worker).worker ≡ number →
+    Continues early worker →
+    (at : ℕ) × (slice_get ran.one.core.given at ≡ Some (number, placed.place, reply))

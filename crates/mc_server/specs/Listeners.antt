@@ -1,12 +1,15 @@
 -- The listeners of wfmc's tenants and administrators and for metrics, and what is printed for them;
 -- this project's profile.
 use Rattle.std.specs.List.{AllZip}
-use Rattle.std.specs.Prelude.{◌≡◌, ◌+◌, ◌^◌, ◌<◌, ℕ, List, [], ◌∷◌, ◌++◌, Option, Some, None, map, Contains}
+use Rattle.std.specs.Prelude.{◌≡◌, ◌+◌, ◌^◌, ◌<◌, ℕ, List, [], ◌∷◌, ◌++◌, All, Option, Some, None, map, Contains}
 use Rattle.std.specs.declared.net.socket_addr.SocketAddrV4.{SocketAddrV4}
 use Rattle.clap.specs.Walk.{Text}
 use Rattle.mc_conn.specs.declared.conn.Role.{Role}
 use Rattle.mc_conn.specs.declared.conn.Role.TheVariants.{Admin, Tenant}
 use Rattle.mc_model.specs.declared.fault.Fault.TheVariants.{Memory}
+use Rattle.mc_net.specs.Running.{ClosesAt, KeepsAt, listeners_of}
+use Rattle.mc_net.specs.declared.front.Front.{Front}
+use Rattle.mc_net.specs.declared.listener.BoundListener.{BoundListener}
 use Rattle.mc_server.specs.NetworkTexts.{told_address}
 use Rattle.mc_server.specs.NetworkWords.{NetworkAsked, admin_name, metrics_name}
 use Rattle.mc_server.specs.TenantWord.{TenantAsked}
@@ -80,16 +83,37 @@ pub record IsListeningFor (asked : ListenerAsked) (listening : Listening) : Type
   pub is_port : given < 2 ^ 16
   pub address : listening.address ≡ told_address asked.address given
 
--- Listeners were bound at these addresses for these roles, and this is printed for each.
+-- Listeners are bound at these addresses, each for the role at its place.
+pub record AreBoundFor (asked : List ListenerAsked) (roles : List Role)
+    (listeners : List (Role × BoundListener)) : Type 0 where
+  pub roles_are : map (λ listener. listener.0) listeners ≡ roles
+  pub addresses_are : map (λ listener. listener.1.address) listeners
+      ≡ map (λ one. one.address) asked
+
+-- They are bound so, and this is printed for each.
 pub record AreBound (asked : List ListenerAsked) (roles : List Role)
     (bound : Listeners) : Type 0 where
-  pub roles_are : map (λ listener. listener.0) bound.listeners.items ≡ roles
+  pub at : AreBoundFor asked roles bound.listeners.items
   pub told : AllZip IsListeningFor asked bound.told.items
 
--- There is a listener for each tenant, and one for administrators and one for metrics if these are
--- asked for.
-abbrev pub AreListenersOf : NetworkAsked → Listeners → Type 0
-AreListenersOf asked bound = AreBound (listeners_asked asked) (roles_asked asked) bound
+-- each tenant has a listener at its own address, and administrators have one if it is asked for
+abbrev pub AreListenersOfClients : NetworkAsked → List (Role × BoundListener) → Type 0
+AreListenersOfClients asked listeners =
+    AreBoundFor (clients_asked asked) (roles_asked asked) listeners
+
+-- These are the clients' listeners, and what is printed for them and for the one for metrics if
+-- that is asked for.
+pub record AreListenersOf (asked : NetworkAsked) (bound : Listeners) : Type 0 where
+  pub clients : AreListenersOfClients asked bound.listeners.items
+  pub told : AllZip IsListeningFor (listeners_asked asked) bound.told.items
+
+-- A front is as it is asked for: it accepts at the clients' listeners, and as many connections of
+-- tenants; each worker keeps as many places for each tenant, and a log as many bytes.
+pub record IsMadeFor (asked : NetworkAsked) (front : Front) : Type 0 where
+  pub clients : AreListenersOfClients asked (listeners_of front.acceptor.listeners.items)
+  pub connections : front.acceptor.most ≡ asked.connections
+  pub reserve : All (KeepsAt asked.reserve) front.event_loops.items
+  pub log_bytes : All (ClosesAt asked.log_bytes) front.event_loops.items
 
 -- why not all have a listener: the address of one with one of these names can't be listened on, or
 -- memory ran out

@@ -133,6 +133,14 @@ pub record WereServed (settings : Configuration) (most number : ℕ) : Type 0 wh
   pub answered : AllZip IsAnsweredBy all ended
   pub in_total : number ≡ places + last
 
+-- Tenants were served so at this front: whoever has served there is one of these, and no connection
+-- is left there.
+pub record WereServedAt (settings : Configuration) (most number : ℕ) (front : Front) :
+    Type 0 where
+  pub were : WereServed settings most number
+  pub by : AllZip HasBeenServedBy were.all front.event_loops.items
+  pub over : All IsEmptyLoop front.event_loops.items
+
 -- a front for the workers and tenants of logs with these settings
 pub record IsFrontOf (settings : Configuration) (front : Front) : Type 0 where
   pub loops : vec_len front.event_loops ≡ settings.workers

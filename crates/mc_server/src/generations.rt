@@ -1,13 +1,13 @@
 //! Serving logs one after another: a log is closed, and the next one is opened over its tables.
 ghost use Rattle.std.specs.List.{AllZip};
-ghost use Rattle.std.specs.Prelude.{◌≡◌, ◌↔◌, ◌⊎◌, ◌<◌, ◌≤◌, ⊤, All, true, false, ℕ, IfErr, IfOk, IfSome, IsTrue, List, MatchResult, length, slice_get, Some};
+ghost use Rattle.std.specs.Prelude.{◌≡◌, ◌↔◌, ◌⊎◌, ◌<◌, ◌≤◌, ⊤, All, None, true, false, ℕ, IfErr, IfOk, IfSome, IsTrue, List, MatchResult, length, slice_get, Some};
 ghost use Rattle.mc_connections.specs.InTurn.{InTurn};
 ghost use Rattle.mc_model.specs.State.{TableState};
 ghost use Rattle.mc_net.specs.Beginning.{HaltsServing};
 ghost use Rattle.mc_net.specs.Halting.{IsNetworkFault};
 ghost use Rattle.mc_net.specs.Running.{IsEmptyLoop, IsNewLoop, each_followed_by};
 ghost use Rattle.mc_server.specs.Crew.{AreWorkersOf};
-ghost use Rattle.mc_server.specs.Logs.{AreOpenedOver, AreServedBy, CanBeFollowed, Closes, FitsOver, IsFrontOf, IsNextLog, LogsWere, ServesTo, WereServed, tables_over};
+ghost use Rattle.mc_server.specs.Logs.{AreOpenedOver, AreServedBy, CanBeFollowed, Closes, FitsOver, IsFrontOf, IsNextLog, LogsWere, ServesTo, WereServedAt, tables_over};
 ghost use Rattle.mc_server.specs.declared.generations.TheConstants.{MOST_PLACES};
 ghost use Rattle.uc_log.specs.Passes.{IsNew, IsUnusedPass};
 ghost use Rattle.uc_worker.specs.AllWorkers.{AreOnOneRun};
@@ -46,7 +46,7 @@ pub(crate) struct Closed {
 struct FreeClosed;
 
 impl Begin<Option<Closed>> for FreeClosed {
-    ghost done = { λ _ _ _. ⊤ };
+    ghost done = { λ _ _ after. after ≡ None };
 
     ghost stopped = { λ _ _ _ _. ⊥ };
 
@@ -298,7 +298,8 @@ pub(crate) fn serve_logs<R: Threads + Wait + Clock + Sync, B: Begin<S>, S>(
     requires places { log.settings.places ≤ 1048576 }
     requires front { IsFrontOf log.settings front.old }
     requires new { All (IsNewLoop (length log.settings.tenants)) front.old.event_loops.items }
-    ensures served { IfOk result (WereServed log.settings most) }
+    ensures served { IfOk result
+        (λ number. WereServedAt log.settings most number front.new) }
     ensures outcome { MatchResult result (λ _. B.done begin.now state.old state.new)
         (HaltsServing (B.done begin.now) (B.stopped begin.now) state.old state.new) }
 {

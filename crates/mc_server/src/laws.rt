@@ -1,7 +1,12 @@
 //! What follows of the logs that tenants were served on. A law is the contract of a function with
 //! an empty body, or with calls of the laws from which it follows.
-ghost use Rattle.std.specs.Prelude.{◌≡◌};
-ghost use Rattle.mc_server.specs.CoreRuns.{AnnouncesInServedOrder, ClosedLogsAreCoreRuns, ClosedLogsDecidedNoMore, LastLogsAreCoreRuns, LastLogsComeBackOnCoreRuns, RunsKeepOwnOrder, RunsKeepSeenOrder};
+ghost use Rattle.std.specs.Prelude.{◌≡◌, ◌≤◌, ℕ, Some, length, map, slice_get};
+ghost use Rattle.std.specs.declared.net.socket_addr.SocketAddrV4.{SocketAddrV4};
+ghost use Rattle.mc_conn.specs.declared.conn.Role.TheVariants.{Admin, Tenant};
+ghost use Rattle.mc_server.specs.CoreRuns.{AnnouncesInServedOrder, ClosedLogsAreCoreRuns, ClosedLogsDecidedNoMore, LastLogsAreCoreRuns, LastLogsComeBackOnCoreRuns, OwedRepliesAreGiven, RunsKeepOwnOrder, RunsKeepSeenOrder};
+ghost use Rattle.mc_server.specs.Listeners.{clients_asked, roles_asked};
+ghost use Rattle.mc_server.specs.NetworkWords.{NetworkAsked, NetworkGiven, admin_name, settings_asked, workers_for};
+ghost use Rattle.mc_server.specs.TenantWord.{TenantAsked};
 ghost use Rattle.mc_server.specs.declared.network_words.TheConstants.{MAX_GENERATIONS, MAX_LOG_BYTES};
 
 /// At most 65,536 logs may be asked for, one after another, and at most 1,099,511,627,776 bytes of
@@ -11,17 +16,39 @@ pub fn numbers_of_a_service()
     ensures log_bytes { MAX_LOG_BYTES ≡ 1099511627776 }
 {}
 
+/// What the words say of a tenant is its own: at its number stand the listener at its address, its
+/// role and its quotas. Administrators come after all tenants, and know each number by that
+/// tenant's name. As many workers serve as are asked for, where a log has a place for each.
+pub fn each_tenant_has_what_its_word_says()
+    ensures tenant { (asked : NetworkAsked) (number : ℕ) (tenant : TenantAsked) →
+        slice_get asked.tenants number ≡ Some tenant →
+        (slice_get (clients_asked asked) number
+        ≡ Some (record { name = tenant.name; address = tenant.address }))
+        × (slice_get (roles_asked asked) number ≡ Some (Tenant number))
+        × (slice_get (settings_asked asked).tenants number ≡ Some tenant.limits) }
+    ensures admin { (asked : NetworkAsked) (address : SocketAddrV4) → asked.admin ≡ Some address →
+        (slice_get (clients_asked asked) (length asked.tenants)
+        ≡ Some (record { name = admin_name; address = address }))
+        × (slice_get (roles_asked asked) (length asked.tenants)
+        ≡ Some (Admin (map (λ tenant. tenant.name) asked.tenants))) }
+    ensures workers { (given : NetworkGiven) → given.workers ≤ given.places →
+        workers_for given ≡ given.workers }
+{}
+
 /// What the workers of a log have done, of all logs of a run of `wfmc` that ends, is one run of the
 /// core, the machine of the headline, over the tables that the log was opened over: each log that
 /// another has followed, and the last one. The core's log is the history that its workers have, and
-/// the replies to their own commands are those that `Worker::submit` gives.
+/// its replies to their own commands are those that connections are owed for them.
 pub fn each_log_is_one_run_of_the_core()
     ensures closed { ClosedLogsAreCoreRuns }
     ensures last { LastLogsAreCoreRuns }
     // So is what those of the last log had done as they came back, before they met.
     ensures back { LastLogsComeBackOnCoreRuns }
+    // Whatever a connection is owed for a command, at any time, such a run gives at its place.
+    ensures owed { OwedRepliesAreGiven }
 {
     uc_refinement::all_workers_run_the_core();
+    uc_refinement::replies_are_those_of_the_run();
     uc_worker::laws::workers_go_on();
 }
 

@@ -10,15 +10,15 @@ use crate::network_texts::{Listening, METRICS, told_address};
 use crate::wanted::Wanted;
 use mc_conn::Role;
 use mc_model::Fault;
-use mio::net::TcpListener;
+use mc_net::BoundListener;
 use std::alloc::{AllocFailed, Global};
 use std::io;
-use std::net::{Net, SocketAddr, SocketAddrV4};
+use std::net::{Net, SocketAddrV4};
 
 /// Listeners with the roles of those who connect there, and what is printed for each.
 #[derive(Drop)]
 pub(crate) struct Listeners<'a> {
-    pub listeners: Vec<(Role, TcpListener)>,
+    pub listeners: Vec<(Role, BoundListener)>,
     pub told: Vec<Listening<'a>>,
 }
 
@@ -53,12 +53,13 @@ fn bind<'a, R: Net>(
     rt: &R,
     name: &'a str,
     address: SocketAddrV4,
-) -> io::Result<(TcpListener, Listening<'a>)>
-    ensures { IfOk result
+) -> io::Result<(BoundListener, Listening<'a>)>
+    ensures at { IfOk result (λ bound. bound.0.address ≡ address) }
+    ensures told { IfOk result
         (λ bound. IsListeningFor (record { name = name.now; address = address }) bound.1) }
 {
-    let listener = TcpListener::bind(rt, SocketAddr::V4(address))?;
-    let given = listener.local_addr()?.port();
+    let listener = BoundListener::bind(rt, address)?;
+    let given = listener.port()?;
     let told = Listening {
         name,
         address: told_address(address, given),
@@ -98,7 +99,7 @@ pub(crate) fn bind_metrics<'a, R: Net>(
     rt: &R,
     address: Option<SocketAddrV4>,
     told: &mut Vec<Listening<'a>>,
-) -> Result<Option<TcpListener>, Stop<'a>>
+) -> Result<Option<BoundListener>, Stop<'a>>
     ensures outcome { MatchResult result (λ _. (asked : List ListenerAsked) →
         AllZip IsListeningFor asked told.old.items →
         AllZip IsListeningFor (asked ++ listener_if metrics_name address) told.new.items)

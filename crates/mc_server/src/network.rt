@@ -2,8 +2,8 @@
 ghost use Rattle.std.specs.Prelude.{All, IfOk, MatchResult, length, map, string_bytes};
 ghost use Rattle.mc_net.specs.Beginning.{HaltsServing};
 ghost use Rattle.mc_net.specs.Running.{IsNewLoop};
-ghost use Rattle.mc_server.specs.Listeners.{AreListenersOf};
-ghost use Rattle.mc_server.specs.Logs.{IsFrontOf, WereServed};
+ghost use Rattle.mc_server.specs.Listeners.{AreListenersOf, IsMadeFor};
+ghost use Rattle.mc_server.specs.Logs.{IsFrontOf, WereServedAt};
 ghost use Rattle.mc_server.specs.Network.{WfmcEnds, IsServed, ServesTenants, StopsRun, StopsServing, stop_line};
 ghost use Rattle.mc_server.specs.NetworkWords.{IsChecked, served_by, settings_asked};
 ghost use Rattle.mc_stream.specs.Pushing.{PushesOrFails};
@@ -17,11 +17,10 @@ use crate::network_words::{Service, read_words, service_of};
 use crate::scraping::{LogWatch, Scraping, Shows, new_shows};
 use crate::wanted::wanted_by;
 use mc_model::Fault;
-use mc_net::{Begin, Front};
+use mc_net::{Begin, BoundListener, Front};
 use mc_programs::{answer_words, fail, tell_fault};
 use mc_scraping::Stop as StopScraping;
 use mc_stream::Output;
-use mio::net::TcpListener;
 use std::alloc::{AllocError, Global};
 use std::fs::Files;
 use std::net::Net;
@@ -50,9 +49,11 @@ fn serve_all<R: Threads + Wait + Clock + Sync, B: Begin<S>, S>(
 ) -> Result<u64, Fault>
     requires checked { IsChecked service.now }
     requires front { IsFrontOf service.now.settings front.old }
+    requires made { IsMadeFor (served_by service.now) front.old }
     requires new { All (IsNewLoop (length service.now.settings.tenants))
         front.old.event_loops.items }
-    ensures served { IfOk result (WereServed service.now.settings service.now.generations) }
+    ensures served { IfOk result (λ number.
+        WereServedAt service.now.settings service.now.generations number front.new) }
     ensures outcome { MatchResult result (λ _. B.done begin.now state.old state.new)
         (HaltsServing (B.done begin.now) (B.stopped begin.now) state.old state.new) }
 {
@@ -77,9 +78,11 @@ fn serve_and_stop<R: Threads + Wait + Clock + Sync, B: Begin<S>, S>(
 ) -> Result<u64, Fault>
     requires checked { IsChecked service.now }
     requires front { IsFrontOf service.now.settings front.old }
+    requires made { IsMadeFor (served_by service.now) front.old }
     requires new { All (IsNewLoop (length service.now.settings.tenants))
         front.old.event_loops.items }
-    ensures served { IfOk result (WereServed service.now.settings service.now.generations) }
+    ensures served { IfOk result (λ number.
+        WereServedAt service.now.settings service.now.generations number front.new) }
     ensures outcome { MatchResult result (λ _. B.done begin.now state.old state.new)
         (HaltsServing (B.done begin.now) (B.stopped begin.now) state.old state.new) }
 {
@@ -105,9 +108,11 @@ where
     R: Threads + Wait + Clock + Files<File: Send, Dir: Send> + Sync,
     requires checked { IsChecked service.now }
     requires front { IsFrontOf service.now.settings front.old }
+    requires made { IsMadeFor (served_by service.now) front.old }
     requires new { All (IsNewLoop (length service.now.settings.tenants))
         front.old.event_loops.items }
-    ensures served { IfOk result (WereServed service.now.settings service.now.generations) }
+    ensures served { IfOk result (λ number.
+        WereServedAt service.now.settings service.now.generations number front.new) }
     ensures outcome { MatchResult result (λ _. B.done begin.now state.old state.new)
         (HaltsServing (B.done begin.now) (B.stopped begin.now) state.old state.new) }
 {
@@ -121,6 +126,7 @@ where
         &mut ||
             requires checked { IsChecked service.now }
             requires front { IsFrontOf service.now.settings front.now }
+            requires made { IsMadeFor (served_by service.now) front.now }
             requires new { All (IsNewLoop (length service.now.settings.tenants))
                 front.now.event_loops.items }
         {
@@ -146,7 +152,7 @@ fn serve_tenants<R, O: Output>(
     hashing: Hashing,
     service: &Service,
     bound: Listeners,
-    metrics: Option<TcpListener>,
+    metrics: Option<BoundListener>,
     output: &mut O,
 ) -> Result<(), Fault>
 where

@@ -7,8 +7,8 @@ use crate::network_words::Service;
 use crate::wanted::names_of;
 use mc_counters::{LogPublisher, Publisher, new_board, new_log_board};
 use mc_model::Fault;
+use mc_net::BoundListener;
 use mc_scraping::{Boards, Scraper, Stop, new_scraper};
-use mio::net::TcpListener;
 use std::alloc::Global;
 use std::hash::RandomState;
 use std::net::Net;
@@ -70,7 +70,7 @@ pub(crate) fn new_shows<R: Net + RandomSource>(
     rt: &R,
     alloc: Global,
     service: &Service,
-    listener: Option<TcpListener>,
+    listener: Option<BoundListener>,
 ) -> Result<Shows, Fault>
     requires { IsChecked service.now }
     ensures { IfErr result IsNetworkFault }
@@ -104,7 +104,7 @@ pub(crate) fn new_shows<R: Net + RandomSource>(
         logs: board,
         workers,
     };
-    let (scraper, stop) = new_scraper(rt, alloc, keys, listener, boards)?;
+    let (scraper, stop) = new_scraper(rt, alloc, keys, listener.into_socket(), boards)?;
     Ok(Shows {
         publishers,
         watch,

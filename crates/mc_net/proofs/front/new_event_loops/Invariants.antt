@@ -1,6 +1,6 @@
 -- As many as rounds so far, and new.
 use Rattle.std.proofs.Common.{◌≡◌, All, vec_len}
-use Rattle.mc_net.specs.Running.{IsNewLoop, KeepsAt}
+use Rattle.mc_net.specs.Running.{ClosesAt, IsNewLoop, KeepsAt}
 use Rattle.mc_net.proofs.front.new_event_loops.Given as goal
 
 abbrev pub invariant-loop : goal.invariant-loop
@@ -9,4 +9,5 @@ invariant-loop g l = record {
   many : vec_len l.event_loops ≡ l.counter;
   new : All (IsNewLoop l.fn.tenants) l.event_loops.items;
   reserve : All (KeepsAt l.fn.reserve) l.event_loops.items;
+  bytes : All (ClosesAt l.fn.log_bytes) l.event_loops.items;
 }

@@ -1,6 +1,6 @@
 use Rattle.std.proofs.Common.{◌+◌, arith, inl, inr, length, refl, subst, ⊎_elim}
 use Rattle.mc_model.specs.Settings.{Configuration}
-use Rattle.mc_server.proofs.LogRuns.{first_few, nobody_at, nobody_there, one_more_few, served_by_nobody, were_served}
+use Rattle.mc_server.proofs.LogRuns.{first_few, nobody_at, nobody_there, one_more_few, served_by_nobody, were_served_at}
 use Rattle.mc_server.specs.Logs.{IsFrontOf, LogsWere, ServesTo, no_log_yet}
 use Rattle.mc_server.proofs.generations.serve_logs.Goals as goal
 
@@ -24,7 +24,7 @@ pub returns-in-Done-clause-served : goal.returns-in-Done-clause-served
 returns-in-Done-clause-served g c =
     let so_far = c.loop.invariant.so_far in
     let ends = subst (ServesTo c.args.log.settings c.loop.is_last so_far.0 c.loop.total c.loop.front) c.in-Done.is so_far.1 in
-    were_served c.connections_are_answered_over_logs.ensures c.commands_are_asked_for_over_logs.ensures c.args.log.settings c.args.most so_far.0 c.loop.total c.in-Done.last _ c.loop.front c.loop.invariant.front ends
+    were_served_at c.connections_are_answered_over_logs.ensures c.commands_are_asked_for_over_logs.ensures c.args.log.settings c.args.most so_far.0 c.loop.total c.in-Done.last _ c.loop.front c.loop.invariant.front ends
     (⊎_elim (λ none. inl none) (λ few. inr few.1) so_far.2) refl
 
 -- the next log was served

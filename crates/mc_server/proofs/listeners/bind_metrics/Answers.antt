@@ -17,7 +17,7 @@ pub returns : goal.returns
 returns g c = record {
   outcome = λ asked told.
       let one : ListenerAsked = record { name = metrics_name; address = c.in-Some.address } in
-      let more = all_zipped_more IsListeningFor asked c.args.told.now.items one c.in-Ok.line told c.in-Ok.ensures in
+      let more = all_zipped_more IsListeningFor asked c.args.told.now.items one c.in-Ok.line told c.in-Ok.ensures.told in
       let printed = subst (λ (lines : List Listening). AllZip IsListeningFor (asked ++ one ∷ []) lines) (sym c.in_ok-push.ensures.items) more in
       subst (λ address. AllZip IsListeningFor (asked ++ listener_if metrics_name address) c.push.new.self.items) (sym c.in-Some.is) printed;
 }

@@ -1,5 +1,6 @@
-use Rattle.std.proofs.Common.{◌∙◌, ap}
+use Rattle.std.proofs.Common.{◌∙◌, ap, inr, refl}
 use Rattle.mc_connections.specs.declared.connections.Connections.{Connections}
+use Rattle.mc_net.proofs.Runnings.{has_stopped, if_failed}
 use Rattle.mc_net.proofs.event_loop.EventLoop.run.Goals as goal
 
 pub loop-init : goal.loop-init
@@ -23,19 +24,42 @@ make_round-requires g c = c.work_adds_up.ensures.known _ _ _ c.loop.invariant c.
 
 pub returns-in_err-is_woken-clause-tenants : goal.returns-in_err-is_woken-clause-tenants
 returns-in_err-is_woken-clause-tenants g c =
-    c.work_adds_up.ensures.known _ _ _ (c.work_adds_up.ensures.through _ _ _ _ c.loop.invariant c.make_round.ensures) c.requires
+    c.work_adds_up.ensures.known _ _ _ (c.work_adds_up.ensures.through _ _ _ _ c.loop.invariant c.make_round.ensures.works) c.requires
 
 pub returns-in_err-signal-clause-tenants : goal.returns-in_err-signal-clause-tenants
 returns-in_err-signal-clause-tenants g c =
     c.work_adds_up.ensures.known _ _ _
     (c.work_adds_up.ensures.through _ _ _ _ c.loop.invariant
-    (c.work_adds_up.ensures.through _ _ _ _ c.make_round.ensures (c.admit_arrivals.ensures c.args.until_done c.make_round.new.worker)))
+    (c.work_adds_up.ensures.through _ _ _ _ c.make_round.ensures.works (c.admit_arrivals.ensures c.args.until_done c.make_round.new.worker)))
     c.requires
 
 pub loop-preserved-in-loop : goal.loop-preserved-in-loop
 loop-preserved-in-loop g c =
     c.work_adds_up.ensures.through _ _ _ _ c.loop.invariant
-    (c.work_adds_up.ensures.through _ _ _ _ c.make_round.ensures (c.admit_arrivals.ensures c.args.until_done c.make_round.new.worker))
+    (c.work_adds_up.ensures.through _ _ _ _ c.make_round.ensures.works (c.admit_arrivals.ensures c.args.until_done c.make_round.new.worker))
 
 pub loop-preserved : goal.loop-preserved
-loop-preserved g c = c.work_adds_up.ensures.through _ _ _ _ c.loop.invariant c.make_round.ensures
+loop-preserved g c = c.work_adds_up.ensures.through _ _ _ _ c.loop.invariant c.make_round.ensures.works
+
+pub returns-in_default-clause-stopped : goal.returns-in_default-clause-stopped
+returns-in_default-clause-stopped g c = has_stopped c.args.until_done _ _ (c.work_adds_up.ensures.none c.args.until_done _)
+
+pub returns-then-eq-clause-stopped : goal.returns-then-eq-clause-stopped
+returns-then-eq-clause-stopped g c = record { last = _; works = c.loop.invariant; worker = refl; left = inr c.clear.ensures.empty }
+
+pub returns-in_err-tell_full-clause-stopped : goal.returns-in_err-tell_full-clause-stopped
+returns-in_err-tell_full-clause-stopped g c = if_failed _ (has_stopped c.args.until_done _ _ c.loop.invariant)
+
+pub returns-in_err-poll_events-clause-stopped : goal.returns-in_err-poll_events-clause-stopped
+returns-in_err-poll_events-clause-stopped g c = if_failed _ (has_stopped c.args.until_done _ _ c.loop.invariant)
+
+pub returns-in_err-is_woken-clause-stopped : goal.returns-in_err-is_woken-clause-stopped
+returns-in_err-is_woken-clause-stopped g c =
+    if_failed _ (has_stopped c.args.until_done _ _ (c.work_adds_up.ensures.through _ _ _ _ c.loop.invariant c.make_round.ensures.works))
+
+pub returns-in_err-signal-clause-stopped : goal.returns-in_err-signal-clause-stopped
+returns-in_err-signal-clause-stopped g c =
+    if_failed _
+    (has_stopped c.args.until_done _ _
+    (c.work_adds_up.ensures.through _ _ _ _ c.loop.invariant
+    (c.work_adds_up.ensures.through _ _ _ _ c.make_round.ensures.works (c.admit_arrivals.ensures c.args.until_done c.make_round.new.worker))))
