@@ -317,6 +317,22 @@ def check_passing_on():
         check("all are served", all(is_answered_again(client) for client in staying + later))
         for client in staying + later:
             client.close()
+    # Who is passed on is still a client of its own tenant.
+    with Server(PROGRAM, ["--workers", "2"], {"a": LARGE, "b": LARGE}) as server:
+        for tenant in "ab":
+            answer(server, tenant, b"set k 0 0 1\r\n%b\r\n" % tenant.encode())
+        clients = held_places(server, "a", 2_048)
+        staying, leaving = clients[::2] + clients[1:2], clients[3::2]
+        for client in leaving:
+            client.close()
+        check("the second worker has places again", is_answered_again(staying[-1]))
+        others = held_places(server, "b", 4)
+        for client in others:
+            client.sendall(b"get k\r\n")
+        said = [client.recv(64) for client in others]
+        check("who is passed on is served as its own tenant's", said == [b"VALUE k 0 1\r\nb\r\nEND\r\n"] * 4, said)
+        for client in staying + others:
+            client.close()
     # The last that is to be served comes to a worker without a place, when the other may have ended: it is served or closed, and isn't left.
     with Server(PROGRAM, ["--workers", "2", "--connections", "2049"], {"a": LARGE}) as server:
         clients = held_places(server, "a", 2_048)

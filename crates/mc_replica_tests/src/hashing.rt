@@ -33,6 +33,8 @@ fn hashes_by_the_keys_that_were_drawn(rt: HostRuntime) -> Result<(), Fail> {
     let hashing = Hashing::Random(HashKeys::draw(&Known)?);
     assert!(rt; hash_of(hashing, b"key-of-16-bytes!") == 0xf0bf_c95b_1181_c089);
     assert!(rt; hash_of(hashing, b"0123456789abc") == 0xf71f_47a1_ce00_5ab3);
+    // As long as a key may be.
+    assert!(rt; hash_of(hashing, &[b'k'; 250]) == 0xde75_5e74_589b_54f9);
     Ok(())
 }
 
