@@ -6,12 +6,13 @@ Prints a line `SERVER: CASE: WHAT<TAB>VALUE<TAB>UNIT` for each measurement: the 
 the quiet tenant's times to a reply, how many requests or rounds the noisy one did in a second, and the server's resident memory. `nobody` is
 the quiet tenant alone, which is measured in any case. A flush isn't measured at memcached, where it takes the quiet client's item too.
 
-Usage: bench/neighbours.py [BINARY [CASE...]] [--seconds N] [--runs N] [--calm MICROSECONDS] [--workers W] [--no-memcached] [--option WORD]; the
-binary is crates/wfmc/out/wfmc and all cases are measured where none is named, for N (5) seconds each. With several runs, by turns, the last lines
-are of each case the median, the least and the greatest of its 99th percentiles in the calm runs alone, those in which nobody's was at most as
-many microseconds (40): where the machine itself keeps a client waiting, the server's part can't be told. The logs follow one another,
-each of 1,048,576 places or 256 MiB. Of three or more processors the quiet client has one, the noisy ones have one, and the server has the
-others. Takes some minutes and up to 4 GB of memory; needs gcc, and memcached unless told otherwise.
+Usage: bench/neighbours.py [BINARY [CASE...]] [--seconds N] [--runs N] [--calm MICROSECONDS] [--workers W] [--no-memcached] [--option WORD]
+[--preload LIBRARY]; the binary is crates/wfmc/out/wfmc and all cases are measured where none is named, for N (5) seconds each. With several
+runs, by turns, the last lines are of each case the median, the least and the greatest of its 99th percentiles in the calm runs alone, those in
+which nobody's was at most as many microseconds (40): where the machine itself keeps a client waiting, the server's part can't be told. The logs
+follow one another, each of 1,048,576 places or 256 MiB. With --preload wfmc takes its memory by that library's allocator. Of three or more
+processors the quiet client has one, the noisy ones have one, and the server has the others. Takes some minutes and up to 4 GB of memory; needs
+gcc, and memcached unless told otherwise.
 """
 
 import argparse
@@ -29,7 +30,7 @@ from harness import repository
 from harness.bounds import MEBIBYTE, held, number
 from harness.client import Client
 from harness.measures import figures_of, print_figure, print_load, print_spread
-from harness.servers import LARGE, Memcached, Server
+from harness.servers import LARGE, Memcached, Server, preloading
 from wfmc import build_load
 
 PLACES = 1_048_576
@@ -150,10 +151,10 @@ def keep_to(processors, pid=0):
                 os.sched_setaffinity(int(task), processors)
 
 
-def wfmc(program, workers, options):
+def wfmc(program, workers, options, library):
     """A server with the tenants' quotas, within the memory that docs/OPERATING.md says that it takes, and the ports of the quiet and of the noisy one."""
     most = number(workers, PLACES, [LARGE, LARGE], CONNECTIONS * held(names=1) + held(), LOG_BYTES)
-    server = Server(program, ("--workers", str(workers), *ENDLESS, *options), {"quiet": LARGE, "noisy": LARGE}, address_space=most)
+    server = Server(program, ("--workers", str(workers), *ENDLESS, *options), {"quiet": LARGE, "noisy": LARGE}, None, preloading(library), most)
     server.await_workers("quiet")
     return server, server.ports["quiet"], server.ports["noisy"]
 
@@ -186,7 +187,7 @@ def measure(load, seconds, started, noise):
 def servers_of(words, program):
     """By name, a function for each server that starts it."""
     for workers in words.workers or (1, 2):
-        yield f"wfmc, {workers} workers", lambda workers=workers: wfmc(program, workers, words.option)
+        yield f"wfmc, {workers} workers", lambda workers=workers: wfmc(program, workers, words.option, words.preload)
         if not words.no_memcached:
             yield f"memcached, {workers} threads", lambda workers=workers: memcached(workers)
 
@@ -222,6 +223,7 @@ def main():
     parser.add_argument("--workers", type=int, action="append")
     parser.add_argument("--no-memcached", action="store_true")
     parser.add_argument("--option", action="append", default=[], help="a word more for wfmc")
+    parser.add_argument("--preload")
     words = parser.parse_args()
     program = words.program or repository.program("wfmc")
     repository.enter(program)

@@ -1,13 +1,13 @@
 #!/usr/bin/env python3
 """Compares wfmc with memcached row by row, over logs that follow one another: rows.py [RUNS] [--seconds N] [--threads N...] [--rows WORD] [--places N]
-[--log-bytes N].
+[--log-bytes N] [--preload LIBRARY].
 
 A row has a number of connections with so many requests at a time each, of which 95 or 50 in 100 are gets and the others sets, data of
 100 bytes to 1 MiB, and keys. A log is closed after 1 GiB (--log-bytes), and has as many places (--places) as that has data for, at most
-1,048,576. For each row the servers are started by turns, anew for each of RUNS (3) runs of N (3)
-seconds, with as many workers as threads (1, 2 and 4). Prints for each row and server the median, the least and the greatest: requests a second,
-the server's processor time a request, and its page faults a request. With --rows only rows whose names have WORD are measured. Needs memcached
-and gcc; the rows of 1,000,000 keys and of long data take up to 4 GB of memory.
+1,048,576. With --preload wfmc takes its memory by that library's allocator. For each row the servers are started by turns, anew for each of
+RUNS (3) runs of N (3) seconds, with as many workers as threads (1, 2 and 4). Prints for each row and server the median, the least and the
+greatest: requests a second, the server's processor time a request, and its page faults a request. With --rows only rows whose names have
+WORD are measured. Needs memcached and gcc; the rows of 1,000,000 keys and of long data take up to 4 GB of memory.
 """
 
 import argparse
@@ -19,7 +19,7 @@ import tempfile
 sys.path.insert(0, str(pathlib.Path(__file__).parents[1] / "tests"))
 from harness import repository
 from harness.measures import figures_of, gathered, print_load, print_spread
-from harness.servers import LARGE, Memcached, Server
+from harness.servers import LARGE, Memcached, Server, preloading
 
 PROGRAM = repository.program("wfmc")
 SHAPES = ((50, 1), (8, 32))  # connections, requests that each sends at once
@@ -39,12 +39,12 @@ def rows():
                 yield name, ["-k", str(keys), "-d", str(size), "-g", str(gets)], (connections, depth), size
 
 
-def start(which, threads, places, log_bytes):
+def start(which, threads, places, log_bytes, library):
     if which == "memcached":
         server = Memcached("-t", str(threads), "-m", "4096", "-I", "2m")
         return server, server.port
     options = ["--workers", str(threads), "--places", str(places), "--generations", "0", "--log-bytes", str(log_bytes)]
-    server = Server(PROGRAM, options, {"a": LARGE})
+    server = Server(PROGRAM, options, {"a": LARGE}, environment=preloading(library))
     return server, server.ports["a"]
 
 
@@ -84,6 +84,7 @@ def main():
     parser.add_argument("--rows", default="")
     parser.add_argument("--places", type=int)
     parser.add_argument("--log-bytes", type=int, default=LOG_BYTES)
+    parser.add_argument("--preload")
     words = parser.parse_args()
     repository.enter(PROGRAM)
     repository.require("memcached", "gcc")
@@ -94,7 +95,7 @@ def main():
         for name, options, shape, size in rows():
             if words.rows not in name:
                 continue
-            log = words.places or min(words.log_bytes // size, MOST_PLACES), words.log_bytes
+            log = words.places or min(words.log_bytes // size, MOST_PLACES), words.log_bytes, words.preload
             for threads in words.threads:
                 found = {"wfmc": [], "memcached": []}
                 for _ in range(words.runs):

@@ -32,6 +32,11 @@ FEW_PLACES = 64
 PLACES_ABOVE = 4_096
 
 
+def preloading(library):
+    """The environment of a server that takes memory by this library's allocator; `None` for the C library's."""
+    return {**os.environ, "LD_PRELOAD": library} if library else None
+
+
 def endless(log_bytes=None):
     """Options for logs that follow one another without an end: of 64 places each, or closed after this many bytes of commands."""
     size = ("--places", str(FEW_PLACES)) if log_bytes is None else ("--places", str(PLACES_ABOVE), "--log-bytes", str(log_bytes))
