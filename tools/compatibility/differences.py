@@ -112,6 +112,10 @@ DIFFERENCES = {
         "python3-memcache, keys and sizes: get after it": "b'old'",
         "libmemcached's tools, too large: memccat after it": "(0, 'old\\n')",
     },
+    "an `append` or `prepend` that grows too large": {
+        "plain lines, limits: an append that grows too large": "b'STORED\\r\\nSERVER_ERROR object too large for cache\\r\\n'",
+        "plain lines, limits: a prepend that grows too large": "b'STORED\\r\\nSERVER_ERROR object too large for cache\\r\\n'",
+    },
     "the largest data": {
         "pymemcache, largest: set of 1 MiB": "True",
         "plain lines, limits: 1 MiB": "b'STORED\\r\\n'",
@@ -133,6 +137,10 @@ DIFFERENCES = {
         "plain lines, signs: decr a -0": BAD_DELTA,
         "plain lines, signs: flush_all +0": BAD_FORMAT,
     },
+    "a byte 0 in a line": {
+        "plain lines, spaces and line ends: get a<0>b": BAD_FORMAT,
+        "plain lines, spaces and line ends: version<0>now": ERROR,
+    },
     "control characters in a key": {
         "plain lines, spaces and line ends: get a<9>b": BAD_FORMAT,
         "plain lines, spaces and line ends: get a<13>": BAD_FORMAT,
@@ -150,13 +158,15 @@ DIFFERENCES = {
         "plain lines, mistakes: decr a 1 quietly": BAD_FORMAT,
         "plain lines, mistakes: flush_all 0 quietly": BAD_FORMAT,
     },
-    "a malformed `delete`, `incr`, `decr` or `flush_all` with `noreply`": {
+    "a malformed `delete`, `incr`, `decr` or `flush_all`, or a `<bytes>` that can't be read, with `noreply`": {
         "plain lines, mistakes without a reply: delete <251 bytes> noreply": BAD_FORMAT,
         "plain lines, mistakes without a reply: delete a 1 noreply": BAD_FORMAT,
         "plain lines, mistakes without a reply: incr <251 bytes> 1 noreply": BAD_FORMAT,
         "plain lines, mistakes without a reply: incr a x noreply": BAD_DELTA,
         "plain lines, mistakes without a reply: decr a x noreply": BAD_DELTA,
         "plain lines, mistakes without a reply: flush_all x noreply": BAD_FORMAT,
+        "plain lines, mistakes without a reply: set a 0 0 x noreply": BAD_FORMAT,
+        "plain lines, mistakes without a reply: cas a 0 0 -1 1 noreply": BAD_FORMAT,
     },
     "uniques": {
         "pymemcache, tenants: the second's first unique": "(b'of the second', b'1')",

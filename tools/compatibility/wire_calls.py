@@ -24,7 +24,7 @@ def talk(address, sent):
 def lines(call, servers, texts):
     """Each text is what a client sends; in its name the line ends are left out."""
     for text in texts:
-        name = text.replace("\r\r", "<13>").replace("\r", "").strip("\n").replace("\n", " / ").replace("\t", "<9>").replace("k" * 251, "<251 bytes>")
+        name = text.replace("\r\r", "<13>").replace("\r", "").strip("\n").replace("\n", " / ").replace("\t", "<9>").replace("\0", "<0>").replace("k" * 251, "<251 bytes>")
         call(name or "no word", talk, servers["first"], text.encode())
 
 
@@ -91,6 +91,8 @@ def mistakes_without_a_reply(call, servers):
             "incr a x noreply\r\n",
             "decr a x noreply\r\n",
             "flush_all x noreply\r\n",
+            "set a 0 0 x noreply\r\n",
+            "cas a 0 0 -1 1 noreply\r\n",
         ],
     )
 
@@ -140,7 +142,7 @@ def wrong_numbers_of_words(call, servers):
 
 @case()
 def spaces_and_line_ends(call, servers):
-    lines(call, servers, ["get a\tb\r\n", "set a 0 0 1\nx\r\nget a\n", "set\ta 0 0 1\r\n", "get a\r\r\n"])
+    lines(call, servers, ["get a\tb\r\n", "get a\0b\r\n", "version\0now\r\n", "set a 0 0 1\nx\r\nget a\n", "set\ta 0 0 1\r\n", "get a\r\r\n"])
 
 
 @case()
@@ -165,6 +167,11 @@ def other_commands(call, servers):
     lines(call, servers, [f"{name}\r\n" for name in names])
 
 
+def half(name):
+    """A line of this command with more than half of the largest data."""
+    return name + b" a 0 0 600000\r\n" + b"x" * 600000 + b"\r\n"
+
+
 @case()
 def limits(call, servers):
     first = servers["first"]
@@ -172,6 +179,8 @@ def limits(call, servers):
     call("flags above 32 bits", talk, first, b"set a 4294967296 0 1\r\nx\r\nget a\r\n")
     call("1 MiB", talk, first, b"set a 0 0 1048576\r\n" + b"x" * 1048576 + b"\r\n")
     call("1 MiB and a byte", talk, first, b"set a 0 0 1048577\r\n" + b"x" * 1048577 + b"\r\nget b\r\n")
+    for name in ("append", "prepend"):
+        call(f"{'an' if name == 'append' else 'a'} {name} that grows too large", talk, first, half(b"set") + half(name.encode()))
     call("a length above 32 bits", talk, first, b"set a 0 0 99999999999\r\nget b\r\n")
     call("a get of 100 keys", talk, first, b"set k7 0 0 1\r\nx\r\nget " + b" ".join(b"k%d" % at for at in range(100)) + b"\r\n")
     call("version", talk, first, b"version\r\n")
