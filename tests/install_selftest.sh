@@ -21,7 +21,6 @@ place_at() {
 
 succeeds() { env PREFIX="$prefix" SYSCONFDIR="$sysconf" DESTDIR="$dest" make -s "$1" >"$folder/said" 2>&1 || { cat "$folder/said"; return 1; }; }
 fails() { ! succeeds "$1" >/dev/null; }
-says() { grep -qF -- "$1" "$folder/said" || { cat "$folder/said"; return 1; }; }
 
 # What an installation consists of: mode, source or a dash, and place, with tabs between them.
 expected() {
@@ -105,10 +104,10 @@ look_at_all() {
 look_at_changed_defaults() {
     echo 'WFMC_WORDS="mine=127.0.0.1:0,1,1"' >"$dest$sysconf/default/wfmc"
     check "installing over a changed defaults file" succeeds install
-    check "that it is kept is said" says "kept: $sysconf/default/wfmc"
+    check "that it is kept is said" says "$folder/said" "kept: $sysconf/default/wfmc"
     check "it is kept" grep -q mine "$dest$sysconf/default/wfmc"
     check "make uninstall" succeeds uninstall
-    check "that it is left is said" says "kept: $sysconf/default/wfmc"
+    check "that it is left is said" says "$folder/said" "kept: $sysconf/default/wfmc"
     check "the changed defaults file alone is left" has_no_file_but "$sysconf/default/wfmc"
     rm "$dest$sysconf/default/wfmc"
 }
@@ -121,12 +120,7 @@ start_installed() {
     # shellcheck disable=SC2086
     (ulimit -v $((limit / 1024)) && exec "$prefix/bin/wfmc" $1) >"$folder/ready" 2>&1 &
     server=$!
-    for _ in $(seq 100); do
-        ! grep -q '^ready' "$folder/ready" || return 0
-        sleep 0.05
-    done
-    cat "$folder/ready"
-    return 1
+    await_ready "$folder/ready" 60 "$server"
 }
 
 # The words of the installed defaults file, but that each port is a free one.
@@ -135,10 +129,10 @@ words_at_free_ports() { (. "$sysconf/default/wfmc" && sed -E 's/:[0-9]+,/:0,/g' 
 serves_a_get() {
     local port
     start_installed "$(words_at_free_ports)" || return 1
-    port=$(sed -nE '1s/.*:([0-9]+)$/\1/p' "$folder/ready")
+    port=$(port_in "$folder/ready")
     exec 3<>"/dev/tcp/127.0.0.1/$port"
     printf 'set a 5 0 3\r\nabc\r\nget a\r\nquit\r\n' >&3
-    diff <(printf 'STORED\r\nVALUE a 5 3\r\nabc\r\nEND\r\n') <(timeout 20 cat <&3)
+    diff <(printf 'STORED\r\nVALUE a 5 3\r\nabc\r\nEND\r\n') <(timeout 60 cat <&3)
 }
 
 for program in "${programs[@]}"; do
@@ -157,7 +151,7 @@ place_at "/opt/wfmc under DESTDIR" opt /opt/wfmc /opt/wfmc/etc
 mkdir -p "$dest/opt/wfmc/bin"
 echo theirs >"$dest/opt/wfmc/bin/other"
 check "make install" succeeds install
-check "that systemd doesn't look there is said" says "systemctl link"
+check "that systemd doesn't look there is said" says "$folder/said" "systemctl link"
 look_at_the_unit /opt/wfmc/bin/wfmc /opt/wfmc/etc/default/wfmc
 touch "$dest/opt/wfmc/share/doc/wfmc/docs/gone.md"
 echo /opt/wfmc/share/doc/wfmc/docs/gone.md >>"$dest/opt/wfmc/share/doc/wfmc/installed"

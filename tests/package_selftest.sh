@@ -84,19 +84,7 @@ start_installed() {
     # shellcheck disable=SC2086
     prlimit --as="$space" --nofile="$files" --core=0 setpriv --no-new-privs "${nobody[@]}" "$root$command" $words >"$folder/ready" 2>&1 &
     server=$!
-    for _ in $(seq 100); do
-        ! grep -q '^ready' "$folder/ready" || return 0
-        sleep 0.05
-    done
-    cat "$folder/ready"
-    return 1
-}
-
-asks() {
-    exec 3<>"/dev/tcp/127.0.0.1/$(sed -nE '1s/.*:([0-9]+)$/\1/p' "$folder/ready")"
-    printf '%s\r\nquit\r\n' "$1" >&3
-    timeout 20 cat <&3 | tr -d '\r' | tr '\n' ' '
-    exec 3>&-
+    await_ready "$folder/ready" 60 "$server"
 }
 
 is_as_before() { diff "$folder/mine" "$root/etc/default/wfmc"; }
@@ -139,8 +127,8 @@ healthy = lambda: subprocess.run([*chroot, *words["HEALTHCHECK"]], **within).ret
 if healthy():
     sys.exit("healthy before it was started")
 with subprocess.Popen([*chroot, *words["ENTRYPOINT"], *words["CMD"]], stdout=subprocess.PIPE, **within) as server:
-    until = time.monotonic() + 20
-    while not healthy() and time.monotonic() < until:
+    until = time.monotonic() + 60
+    while not healthy() and server.poll() is None and time.monotonic() < until:
         time.sleep(0.1)
     good, limit = healthy(), re.search(r"Max address space +(\d+)", open(f"/proc/{server.pid}/limits").read())[1]
     owner = os.stat(f"/proc/{server.pid}").st_uid
@@ -176,10 +164,11 @@ make_later
 check "dpkg -i" debian -i "$package"
 check "its files, installed" has_the_files_alone "$root"
 check "the installed wfmc serves under its unit's limits" start_installed
-check "a set" test "$(asks $'set a 5 0 3\r\nabc')" = "STORED "
+port=$(port_in "$folder/ready")
+check "a set" test "$(asks "$port" $'set a 5 0 3\r\nabc')" = "STORED "
 check "an upgrade" debian -i "$folder/later.deb"
 check "a defaults file that wasn't changed is the new one" is_the_later
-check "the running wfmc goes on" test "$(asks 'get a')" = "VALUE a 5 3 abc END "
+check "the running wfmc goes on" test "$(asks "$port" 'get a')" = "VALUE a 5 3 abc END "
 kill "$server" && { wait "$server" || true; } 2>/dev/null
 server=
 check "back to the earlier" debian -i "$package"

@@ -26,15 +26,7 @@ while True:
 END
 }
 
-asks() {
-    exec 3<>"/dev/tcp/127.0.0.1/$1"
-    printf '%s\r\nquit\r\n' "$2" >&3
-    timeout 20 cat <&3 | tr -d '\r' | tr '\n' ' '
-    exec 3>&-
-}
-
 is_refused() { (exec 3<>"/dev/tcp/127.0.0.1/$1") 2>/dev/null && return 1 || return 0; }
-says() { grep -qF -- "$2" "$1" || { cat "$1"; return 1; }; }
 
 refuses_a_taken_port() {
     local status=0 taken=$1
@@ -63,7 +55,9 @@ is_interrupted() {
     kill -INT -- "-$tried"
     wait "$tried" 2>/dev/null || true
     tried=
-    sleep 1
+    # What it had started ends a moment later.
+    await 60 leaves_no_process || true
+    await 60 leaves_nothing || true
 }
 
 # Nothing that was compiled for this port runs on.
