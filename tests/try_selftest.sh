@@ -1,7 +1,7 @@
 #!/usr/bin/env bash
-# Tests make try and make run: a port that is taken is refused at once, as for make serve too; wfmc serves two tenants apart, says that
-# nothing was proved and how long that took, and leaves neither a process nor a file when it is interrupted; and mc_stdin prints what its
-# first run must print. Some minutes, most of them compiling. The last line is 'N passed, M failed'.
+# Tests make try and make run: a port that is taken is refused at once, as for make serve too; that wfmc has died is an error; wfmc serves
+# two tenants apart, says that nothing was proved and how long that took, and leaves neither a process nor a file when it is interrupted; and
+# mc_stdin prints what its first run must print. Some minutes, most of them compiling. The last line is 'N passed, M failed'.
 set -euo pipefail
 cd "$(dirname "$0")/.."
 
@@ -41,6 +41,23 @@ with socket.create_server(("127.0.0.1", int(sys.argv[1]))): print(flush=True); t
     [ "$status" -eq 1 ] && [ ! -s "$folder/output" ] && says "$folder/errors" "127.0.0.1:$taken is taken"
 }
 
+# With a stand-in for rt, which compiles nothing, answers once at the second port, and dies.
+reports_a_death() {
+    local status=0
+    mkdir -p "$folder/bin"
+    cat >"$folder/bin/rt" <<'END'
+#!/usr/bin/env python3
+import re, socket, sys
+with socket.create_server(("127.0.0.1", int(re.search(r"blog=127.0.0.1:(\d+)", " ".join(sys.argv))[1]))) as listener:
+    with listener.accept()[0] as stream:
+        stream.sendall(b"VERSION 1\r\n")
+sys.exit("it died")
+END
+    chmod +x "$folder/bin/rt"
+    TMPDIR=$folder/temporary PATH=$folder/bin:$PATH timeout 60 tools/try.sh wfmc "$1" >"$folder/output" 2>"$folder/errors" || status=$?
+    [ "$status" -eq 1 ] && says "$folder/output" "ready after" && says "$folder/errors" "it died" && says "$folder/errors" "wfmc has ended before its hour"
+}
+
 starts() {
     # In a session of its own, so that an interrupt reaches all that it started, as at a terminal; the shell has it ignored in the background.
     TMPDIR=$folder/temporary setsid env --default-signal=INT make -s try PORT="$1" >"$folder/output" 2>"$folder/errors" &
@@ -75,6 +92,8 @@ check "both are free" tools/try.sh ports "$shop"
 check "no port" eval '! tools/try.sh wfmc many >/dev/null 2>&1'
 check "no program" eval '! tools/try.sh wfmd >/dev/null 2>&1'
 
+check "a wfmc that dies is an error" reports_a_death "$shop"
+check "no file is left then" leaves_nothing
 check "make try" starts "$shop"
 grep 'ready after' "$folder/output" || true
 check "it says what wasn't proved" says "$folder/output" "Nothing was proved: make serve proves wfmc"

@@ -46,7 +46,7 @@ need_ports() {
 }
 
 try_wfmc() {
-    local shop=$1 blog=$(($1 + 1))
+    local shop=$1 blog=$(($1 + 1)) status=0
     (cd crates/wfmc && exec setsid rt try --seconds "$seconds" -- --places 1048576 --generations 0 \
         "shop=127.0.0.1:$shop,1000000,64000000" "blog=127.0.0.1:$blog,1000000,64000000") </dev/null >"$folder/said" 2>&1 &
     process=$!
@@ -66,9 +66,11 @@ ready after $SECONDS seconds. Nothing was proved: make serve proves wfmc, and se
 In another terminal: printf 'set a 0 0 1\\r\\nx\\r\\nget a\\r\\nquit\\r\\n' | nc 127.0.0.1 $shop
 An interrupt (Ctrl-C) ends it; else it ends after an hour.
 END
-    wait "$process" || true
+    wait "$process" || status=$?
     process=
     cat "$folder/said" >&2
+    # A server doesn't end by itself; an interrupt ends this script, and doesn't come here.
+    [ "$SECONDS" -ge "$seconds" ] || refuse "wfmc has ended before its hour was over: rt try ended with status $status" 1
 }
 
 try_stdin() {
