@@ -1,8 +1,8 @@
 #!/usr/bin/env bash
 # Tests tools/install.sh: installs into temporary folders with the prefix /usr/local, with another, and without DESTDIR and with a blank and a
 # percent sign in the prefix, where the installed wfmc serves then. For each it checks the files and that there are no others, their modes and
-# bytes, the unit (by systemd-analyze, where installed), the pages (by man, where installed), and that uninstalling leaves no file but a
-# defaults file that was changed. Nothing is written elsewhere. The last line is 'N passed, M failed'.
+# bytes, the unit (by systemd-analyze, where installed), the pages (by man, where installed), that a later one's defaults file takes the place
+# of one that wasn't changed, and that uninstalling leaves no file but one that was, and no folder of documents. Nothing is written elsewhere. The last line is 'N passed, M failed'.
 set -euo pipefail
 cd "$(dirname "$0")/.."
 
@@ -41,6 +41,7 @@ expected() {
 
 files() { (cd "$root" && find . ! -type d | sed 's/^\.//' | sort); }
 has_the_files_alone() { diff <(expected | cut -f3 | sed "s|^$root||" | sort) <(files); }
+has_no_documents() { [ ! -e "$dest$prefix/share/doc/wfmc" ] || { find "$dest$prefix/share/doc/wfmc"; return 1; }; }
 has_no_file_but() { diff <(printf '%s' "${1:+$1$'\n'}") <(files); }
 
 has_modes_and_bytes() {
@@ -109,6 +110,7 @@ look_at_changed_defaults() {
     check "make uninstall" succeeds uninstall
     check "that it is left is said" says "$folder/said" "kept: $sysconf/default/wfmc"
     check "the changed defaults file alone is left" has_no_file_but "$sysconf/default/wfmc"
+    check "no folder of documents is left" has_no_documents
     rm "$dest$sysconf/default/wfmc"
 }
 
@@ -157,8 +159,13 @@ touch "$dest/opt/wfmc/share/doc/wfmc/docs/gone.md"
 echo /opt/wfmc/share/doc/wfmc/docs/gone.md >>"$dest/opt/wfmc/share/doc/wfmc/installed"
 check "installing once more" succeeds install
 check "what an earlier one had more is gone" test ! -e "$dest/opt/wfmc/share/doc/wfmc/docs/gone.md"
+echo 'WFMC_WORDS="earlier=127.0.0.1:0,1,1"' | tee "$dest/opt/wfmc/share/doc/wfmc/wfmc.default" >"$dest/opt/wfmc/etc/default/wfmc"
+check "installing over an earlier one, whose defaults file is another" succeeds install
+check "one that wasn't changed is the new one" cmp etc/wfmc.default "$dest/opt/wfmc/etc/default/wfmc"
+check "and so is its copy" cmp etc/wfmc.default "$dest/opt/wfmc/share/doc/wfmc/wfmc.default"
 check "make uninstall" succeeds uninstall
 check "another's file alone is left" has_no_file_but /opt/wfmc/bin/other
+check "no folder of documents is left" has_no_documents
 
 place_at "a blank in the prefix, no DESTDIR" live "$folder/live/two words, 100%" "$folder/live/etc"
 look_at_all "\"${prefix//%/%%}/bin/wfmc\"" "$sysconf/default/wfmc"

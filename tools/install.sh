@@ -2,7 +2,7 @@
 # Installs the built programs, their manual pages, the unit of systemd with its defaults file, and the documents; or takes exactly
 # these out again, by the list that the installing left among the documents.
 # Usage: tools/install.sh install|uninstall, with PREFIX (/usr/local), SYSCONFDIR (/etc) and DESTDIR (none) in the environment.
-# A defaults file that exists is kept, and one that was changed isn't removed; either is reported.
+# A defaults file that was changed is kept, and isn't removed either; both are reported.
 set -euo pipefail
 cd "$(dirname "$0")/.."
 
@@ -50,10 +50,12 @@ unit() {
     echo "${text//@DEFAULTS@/"$(specified "$defaults")"}"
 }
 
-# The defaults file is the operator's once it is there.
+# The defaults file is the operator's once it was changed, which the earlier installation's copy tells.
 put_defaults() {
     if [ ! -e "$dest$defaults" ]; then
         install -D -m 644 etc/wfmc.default "$dest$defaults"
+    elif cmp -s "$dest$documents/wfmc.default" "$dest$defaults"; then
+        cp etc/wfmc.default "$dest$defaults"
     elif ! cmp -s etc/wfmc.default "$dest$defaults"; then
         echo "kept: $defaults, which isn't as etc/wfmc.default"
     fi
@@ -80,8 +82,8 @@ install_all() {
     for document in etc/grafana-wfmc.json etc/prometheus-wfmc.rules.yml examples/* tools/move_tenant.py tools/proxy.yml; do
         put 644 "$document" "$documents/$document"
     done
-    put 644 etc/wfmc.default "$documents/wfmc.default"
     put_defaults
+    put 644 etc/wfmc.default "$documents/wfmc.default"
     echo "$list" >>"$notes"
     take_what_is_old
     install -m 644 "$notes" "$dest$list"
@@ -109,7 +111,7 @@ uninstall_all() {
     cp "$dest$list" "$notes"
     take_defaults
     while IFS= read -r place; do rm -f "$dest$place"; done <"$notes"
-    rmdir --ignore-fail-on-non-empty "$dest$documents/docs" "$dest$documents"
+    find "$dest$documents" -depth -type d -empty -delete
     echo "uninstalled under $dest$prefix"
 }
 
