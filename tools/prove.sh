@@ -3,7 +3,7 @@
 # program is run on its stored words and input, and on none where it has none.
 # Prints a line as each crate begins and one as it ends; where one fails, its log stays and the last line says where.
 # rt keeps others out of a crate's folder and of all below it while it works, so each crate is proved in a room of its own, made of
-# hard links; what it has made comes back when it ends.
+# hard links; what it has made comes back when it ends. One run of this script waits for another, since they would share the rooms.
 set -euo pipefail
 cd "${REPOSITORY:-$(dirname "$0")/..}"
 [ $# -gt 0 ] || { echo "which crates?" >&2; exit 2; }
@@ -17,6 +17,10 @@ for crate in "${!below[@]}"; do
     ours=
     for library in ${below[$crate]}; do [ -z "${below[$library]+ours}" ] || ours+=" $library"; done
     below[$crate]=$ours
+done
+
+for crate in "$@"; do
+    [[ -n "$crate" && -n "${below[$crate]+listed}" ]] || { echo "tools/prove.sh: crates.txt has no crate '$crate'" >&2; exit 2; }
 done
 
 # The crates to prove, each after its libraries.
@@ -47,6 +51,10 @@ closure() {
     for library in ${below[$1]}; do closure "$library"; done
 }
 
+mkdir -p out
+exec {lock}>out/prove.lock
+flock -n "$lock" || { echo "waiting for another run of tools/prove.sh"; flock "$lock"; }
+
 # A room for one crate: its folder, those of the libraries below it, and a list of these alone.
 rooms=$PWD/out/rooms
 make_room() {
@@ -68,14 +76,15 @@ begin() {
     local crate=$1 jobs=$2 input words=()
     begun=$((begun + 1))
     echo "proving $crate ($begun of ${#order[@]})"
+    touch "$logs/$crate.begun"
     make_room "$crate"
     input=/dev/null
     [ ! -e "crates/$crate/stdin" ] || input=stdin
     [ ! -e "crates/$crate/args" ] || mapfile -t words <"crates/$crate/args"
     if [ -e "crates/$crate/src/main.rt" ]; then
-        (cd "$rooms/$crate/crates/$crate" && rt run --jobs "$jobs" ${words:+-- "${words[@]}"} <"$input") >"$logs/$crate" 2>&1 &
+        (cd "$rooms/$crate/crates/$crate" && exec rt run --jobs "$jobs" ${words:+-- "${words[@]}"} <"$input") >"$logs/$crate" 2>&1 {lock}>&- &
     else
-        (cd "$rooms/$crate/crates/$crate" && rt lib --jobs "$jobs") >"$logs/$crate" 2>&1 &
+        (cd "$rooms/$crate/crates/$crate" && exec rt lib --jobs "$jobs") >"$logs/$crate" 2>&1 {lock}>&- &
     fi
     state[$crate]=$SECONDS jobs_of[$crate]=$jobs process_of[$!]=$crate
 }
@@ -96,7 +105,7 @@ is_ready() {
 
 idle=$(nproc)
 left=${#order[@]}
-trap 'kill $(jobs -p) 2>/dev/null || true; rm -rf "$rooms"' EXIT
+trap 'kill $(jobs -p) 2>/dev/null || true; wait; rm -rf "$rooms"' EXIT
 while [ "$left" -gt 0 ]; do
     ready=()
     for crate in "${order[@]}"; do ! is_ready "$crate" || ready+=("$crate"); done
@@ -117,6 +126,9 @@ while [ "$left" -gt 0 ]; do
         echo "$crate isn't proved; its whole log is $logs/$crate" >&2
         exit 1
     fi
+    # A program that rt found to be of these texts, and left as it was, is to be newer than they are, as one that it has built: tools/package.sh
+    # asks for that.
+    [ ! -e "crates/$crate/out/$crate" ] || touch -r "$logs/$crate.begun" "crates/$crate/out/$crate"
     echo "        $crate is proved ... $((SECONDS - state[$crate])) s"
     state[$crate]=proved idle=$((idle + jobs_of[$crate])) left=$((left - 1))
 done
