@@ -1,5 +1,6 @@
 #!/usr/bin/env bash
-# Tests tools/package.sh on the programs as built: the same bytes twice; the Debian package and the tar file have one tree, and no more than it
+# Tests tools/package.sh on the programs as built: the same bytes twice; a program that is older than a text is refused, and one that asks for
+# more than the image has; the Debian package and the tar file have one tree, and no more than it
 # should have; the checksums of the sources hold; lintian, where installed, finds no error. The package is installed by dpkg under a temporary
 # root, with a database of its own; wfmc serves from there by the words of its defaults file and under the limits of its unit; an upgrade keeps a
 # defaults file that was changed, and a running wfmc; purging leaves nothing. The image's files are put together as etc/Containerfile has them, with
@@ -41,6 +42,17 @@ programs_are_as_built() { for it in "${programs[@]}"; do cmp "crates/$it/out/$it
 
 make_packages() {
     tools/package.sh "$folder/first" >/dev/null && tools/package.sh "$folder/second" >/dev/null && diff -r "$folder/first" "$folder/second"
+}
+
+# On a repository of its own, whose programs were made before its one text, or ask for a C library that the image doesn't have.
+make_another() {
+    mkdir -p "$folder/another/crates/wfmc/src"
+    cp -r --parents tools etc HANDLES crates.txt "$folder/another"
+    for it in "${programs[@]}"; do cp --parents "crates/$it/out/$it" "$folder/another"; done
+    touch -d tomorrow "$folder/another/crates/wfmc/src/main.rt"
+}
+refuses_another() {
+    ! "$folder/another/tools/package.sh" "$folder/another/out" >"$folder/said" 2>&1 && says "$folder/said" "$1" && [ ! -e "$folder/another/out" ]
 }
 
 has_one_tree() {
@@ -143,6 +155,11 @@ END
 
 check "the same bytes twice" make_packages
 package=$(echo "$folder"/first/wfmc_*.deb)
+make_another
+check "a program that is older than a text" refuses_another "crates/wfmc/src/main.rt is newer than crates/wfmc/out/wfmc: make build"
+touch -d yesterday "$folder/another/crates/wfmc/src/main.rt" "$folder/another/HANDLES" "$folder/another/crates.txt"
+echo GLIBC_9.9 >>"$folder/another/crates/mc_stdin/out/mc_stdin"
+check "a program that asks for a later C library" refuses_another "the programs ask for version 9.9 of the C library"
 check "one tree" has_one_tree
 check "no folder in the tar file, which would take the place of a link" has_no_folder
 check "its files" has_the_files_alone "$folder/deb"

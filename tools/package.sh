@@ -1,7 +1,8 @@
 #!/usr/bin/env bash
 # Makes of the programs as built, in out/package/: a Debian package, a tar file with the same tree, and that tree, from which
 # etc/Containerfile makes an image. make package proves and builds them first. The same sources and programs give the same bytes.
-# Usage: tools/package.sh [FOLDER]. The version is that of etc/package/changelog.
+# Usage: tools/package.sh [FOLDER]. The version is that of etc/package/changelog. A program that is older than a text that is proved is
+# refused, and one that asks for a later C library than the image has.
 set -euo pipefail
 cd "$(dirname "$0")/.."
 
@@ -26,6 +27,22 @@ for program in "${programs[@]}"; do
 done
 [ "$(crates/wfmc/out/wfmc --version)" = "wfmc ${version%-*}" ] || refuse "etc/package/changelog is of version $version, but the program is another"
 
+# The first text that is newer than a program, from which it may not have been built.
+newer_than() {
+    find HANDLES crates.txt crates -path 'crates/*/out' -prune -o -type f \( -name '*.rt' -o -name '*.antt' -o -name HANDLES -o -name crates.txt \) -newer "$1" -print -quit
+}
+for program in "${programs[@]}"; do
+    text=$(newer_than "crates/$program/out/$program")
+    [ -z "$text" ] || refuse "$text is newer than crates/$program/out/$program: make build"
+done
+
+# What the programs ask for: versions of the C library, and gcc's library. And the highest of the versions, which the image must have.
+asked=$(for program in "${programs[@]}"; do grep -aoE 'GLIBC_[0-9.]+|libgcc_s\.so\.1' "crates/$program/out/$program" || true; done)
+libc=$(sed -n 's/GLIBC_//p' <<<"$asked" | sort -V | tail -n 1)
+image=$(sed -nE 's/^# .* has version ([0-9.]+) of the C library.*/\1/p' etc/Containerfile)
+[ "$(printf '%s\n' "$libc" "$image" | sort -V | tail -n 1)" = "$image" ] ||
+    refuse "the programs ask for version $libc of the C library, and the image of etc/Containerfile has $image: name a later one there"
+
 # What the kit reads of this repository: every text that is proved, with what it is run on.
 sources() {
     {
@@ -39,7 +56,7 @@ kit() { rt version 2>/dev/null || echo "unknown: rt is missing"; }
 commit() {
     local found
     found=$(git rev-parse HEAD 2>/dev/null) || { echo "unknown: no checkout of git"; return; }
-    [ -z "$(git status --porcelain -- HANDLES crates.txt crates 2>/dev/null)" ] || found+=", with changes"
+    [ -z "$(git status --porcelain 2>/dev/null)" ] || found+=", with changes"
     echo "$found"
 }
 
@@ -80,12 +97,8 @@ make_tree() {
     find "$tree" -exec touch -h -d "@$moment" {} +
 }
 
-# The packages with the libraries that the programs ask for: the C library of the highest version that one names, and gcc's.
-libraries() {
-    local it texts
-    texts=$(for it in "${programs[@]}"; do grep -aoE 'GLIBC_[0-9.]+|libgcc_s\.so\.1' "crates/$it/out/$it"; done)
-    echo "libc6 (>= $(sed -n 's/GLIBC_//p' <<<"$texts" | sort -V | tail -n 1))$(grep -q libgcc_s <<<"$texts" && echo ', libgcc-s1' || true)"
-}
+# The packages with the libraries that the programs ask for.
+libraries() { echo "libc6 (>= $libc)$(grep -q libgcc_s <<<"$asked" && echo ', libgcc-s1' || true)"; }
 
 make_control() {
     local tree=$1 it
