@@ -100,18 +100,23 @@ words_of() { grep -o '`[^`]*`' <<<"$1" | tr -d '`'; }
 
 # Tries the words of the table of docs/OPERATING.md that says which word is bad.
 try_words() {
-    local word right wrong it
+    local word right wrong it rows=0
     while IFS='|' read -r _ word _ right wrong _; do
         word=$(words_of "$word")
+        right=$(words_of "$right" || true)
+        wrong=$(words_of "$wrong" || true)
+        check "$word has words that it may be, and words that it may not" test -n "$right" -a -n "$wrong"
+        rows=$((rows + 1))
         while IFS= read -r it; do
             check "$word may be $it: $(said_of "$word" "$it")" eval '[[ "$(said_of "$word" "$it")" == "wfmc: cannot listen "*" 1" ]]'
             check "$word may be $it, says --check" test "$(said_of "$word" "$it" --check)" = "wfmc: the settings can be served 0"
-        done < <(words_of "$right")
+        done <<<"$right"
         while IFS= read -r it; do
             check "$word may not be $it: $(said_of "$word" "$it")" test "$(said_of "$word" "$it")" = "wfmc: bad settings 2"
             check "$word may not be $it, says --check" eval '[[ "$(said_of "$word" "$it" --check)" == "wfmc: "*"$it"*": "*"not "*" 2" ]]'
-        done < <(words_of "$wrong")
+        done <<<"$wrong"
     done < <(sed -n '/^### Which word is bad/,/^Numbers are/p' docs/OPERATING.md | grep '^| `')
+    check "docs/OPERATING.md has the table of words" test "$rows" -gt 0
 }
 
 [ ! -x crates/wfmc/out/wfmc ] || try_words

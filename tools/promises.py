@@ -2,7 +2,8 @@
 """Writes docs/PROMISES.md: what each public call of the product's libraries asks and promises, as the sources say it.
 
 promises.py --check fails where the document differs, where the table of docs/PROVED.md names a call, a clause or a mutant that isn't there, where
-those of docs/FAULTS.md name a call or a clause that isn't there or leave out a call that can fail, and where a link to the document leads nowhere.
+those of docs/FAULTS.md name a call or a clause that isn't there or leave out a call that can fail, and where a link to the document leads nowhere;
+and where it finds none of these to look at.
 """
 
 import re
@@ -123,6 +124,12 @@ def claims():
             yield [quoted(cell) for cell in cells[1:]]
 
 
+def kinds_unnamed():
+    """Which of calls, clauses and mutants none of those rows names."""
+    rows = list(claims())
+    return [kind for at, kind in enumerate(("calls", "clauses", "mutants")) if not any(row[at] for row in rows)]
+
+
 def unknown_names():
     """What those rows name and the sources don't have."""
     promises = {f"{item.crate}::{item.name}": item.labels() for item in public_items()}
@@ -155,19 +162,29 @@ def wrong_faults():
     yield from [f"{call} isn't listed" for call, item in promises.items() if can_fail(item) and call not in listed]
 
 
-def dead_links(text):
-    """The links of other documents to headings that the page doesn't have."""
-    anchors = {anchor_of(heading) for heading in re.findall(r"^#+ (.*)$", text, re.MULTILINE)}
+def links():
+    """The links of other documents to headings of the page: each document and heading."""
     for document in (ROOT / "README.md", *sorted(PAGE.parent.glob("*.md"))):
         for anchor in re.findall(r"PROMISES\.md#([\w-]+)", document.read_text(encoding="utf-8")):
-            if anchor not in anchors:
-                yield f"#{anchor} in {document.name}"
+            yield document, anchor
+
+
+def dead_links(text):
+    """The links to headings that the page doesn't have."""
+    anchors = {anchor_of(heading) for heading in re.findall(r"^#+ (.*)$", text, re.MULTILINE)}
+    for document, anchor in links():
+        if anchor not in anchors:
+            yield f"#{anchor} in {document.name}"
 
 
 def check():
     text = page()
     if PAGE.read_text(encoding="utf-8") != text:
         sys.exit("docs/PROMISES.md isn't what the sources say: make documents")
+    if nothing := kinds_unnamed():
+        sys.exit(f"docs/PROVED.md has no row that names {', '.join(nothing)}: its table has another form than is read here")
+    if not any(links()):
+        sys.exit("no document has a link to a heading of docs/PROMISES.md, or in another form than is read here")
     if unknown := list(unknown_names()):
         sys.exit(f"docs/PROVED.md names what the sources don't have: {', '.join(unknown)}")
     if wrong := list(wrong_faults()):
@@ -179,6 +196,8 @@ def check():
 def main():
     if sys.argv[1:] == ["--check"]:
         check()
+    elif sys.argv[1:]:
+        sys.exit("usage: tools/promises.py [--check]")
     else:
         PAGE.write_text(page(), encoding="utf-8")
 

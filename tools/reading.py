@@ -4,6 +4,7 @@
 For each call, named as in docs/PROMISES.md: how many definitions its clauses reach through specs/ that no call before it does, with their lines,
 file by file. Comments, blank lines and imports don't count, nor definitions of the kit.
 
+reading.py --sizes prints how long specs/ of each crate is: its lines, and of these those of definitions, imports and comments.
 reading.py --write brings the two tables of docs/DEFINITIONS.md up to date, which have these numbers and how long specs/ of each crate is;
 reading.py --check fails where they aren't, or where a name that the document explains isn't in the crates that its section names.
 """
@@ -127,6 +128,10 @@ def main():
         unknown = [f"docs/DEFINITIONS.md: {title.strip('# ')}: `{name}` is in none of its crates" for title, name in unknown_names(document)]
         if unknown:
             sys.exit("\n".join(unknown))
+    elif sys.argv[1:] == ["--sizes"]:
+        print("\n".join(size_rows()))
+    elif any(word.startswith("-") for word in sys.argv[1:]):
+        sys.exit("usage: tools/reading.py [CRATE::FUNCTION... | --sizes | --write | --check]")
     else:
         print_calls(sys.argv[1:] or HEADLINE)
 

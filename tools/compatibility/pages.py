@@ -56,7 +56,9 @@ def shell_fails(block, folder):
 
 
 def failures(first, second):
-    """For each example its name and what is wrong with it, against tenants at these addresses; and a line for what can't be tried."""
+    """For each example its name and what is wrong with it, against tenants at these addresses; and a line for what can't be tried. That none of
+    a page could be is wrong too."""
+    untried = set(PAGES)
     for name, language, block in examples():
         lacks = missing(block) if language == "pycon" else []
         if lacks:
@@ -67,5 +69,8 @@ def failures(first, second):
             Client((host, int(port)), default_noreply=False).flush_all()
         for port, address in (("11211", first), ("11212", second)):
             block = re.sub(rf"\b{port}\b", address.rpartition(":")[2], block)
+        untried.discard(name.partition(",")[0])
         with tempfile.TemporaryDirectory() as folder:
             yield name, (python_fails if language == "pycon" else shell_fails)(block, folder)
+    for page in sorted(untried):
+        yield page, "none of its examples was tried"
