@@ -1,7 +1,8 @@
 #!/usr/bin/env python3
 """Tests how a tenant is moved from a running memcached, as docs/CLIENTS.md has it: Debian's memcached behind twemproxy, by the configuration on
 that page, tools/move_tenant.py while a client goes on, and the switch. Afterwards each item without an expiry is read through the proxy as memcached
-holds it, what was deleted is gone, and the other tenant has noticed nothing. Then what is refused, and servers that aren't there.
+holds it, what was deleted is gone, and the other tenant has noticed nothing. Then what is refused, a client that goes on too long, and servers that
+aren't there.
 
 Usage: tests/moving.py [WFMC]. tools/moving.sh installs what it needs. The last line is 'N passed, M failed'.
 """
@@ -19,6 +20,9 @@ from harness.client import Client
 from harness.processes import SECONDS, Process
 from harness.results import Results
 from harness.servers import Memcached, Server, free_port, listens, wait_for
+
+sys.path.insert(0, str(repository.ROOT / "tools"))
+from move_tenant import Move
 
 QUOTAS = (100_000, 100_000_000)
 KEYS = [f"key{at}".encode() for at in range(1_500)]
@@ -193,6 +197,24 @@ def check_refused(source, server):
     check("no older item is left", sorted(len(reply) for reply in found.values()) == [5, 5, 523, 523], found)
 
 
+def check_going_on(source, server):
+    """After the last pass the items are the same; a client that goes on shows by each key that it changes, deletes, sets or lets expire."""
+    with Client(source.port) as client:
+        client.line(b"flush_all\r\n")
+        check("some are set", all(stored(client, b"k%d" % at, b"x") for at in range(5)))
+        check("and one that isn't copied", stored(client, b"expiring", b"x", expiry=3_000))
+        mover = Move(*(f"127.0.0.1:{port}" for port in (source.port, server.ports["shop"])))
+        check("all are copied", mover.copy() == (5, 0))
+        check("nothing differs", not mover.different(), mover.different())
+        check("one is changed", stored(client, b"k0", b"y"))
+        check("one is deleted", client.line(b"delete k1\r\n") == "DELETED")
+        check("one is to expire", client.line(b"touch k2 3000\r\n") == "TOUCHED")
+        check("one is new", stored(client, b"k5", b"x"))
+        check("one has a key that the protocol forbids", stored(client, b"tab\tbed", b"x"))
+    wrong = mover.different()
+    check("these differ", wrong == {b"k0", b"k1", b"k2", b"k5", b"tab\tbed"}, wrong)
+
+
 def check_stopped(source, server):
     """Servers that aren't there, lists that aren't given, and no second pass."""
     address = [f"127.0.0.1:{port}" for port in (source.port, server.ports["shop"])]
@@ -205,8 +227,9 @@ def check_stopped(source, server):
     check("no second pass", status == 1 and "the second pass wasn't made" in errors, errors)
     status, _, errors = tried(address[1], address[1])
     check("no memcached's list", status == 1 and "answered ERROR when it was asked for its keys" in errors, errors)
-    status, _, errors = tried("here", address[1])
-    check("no address", status == 2 and "here is no HOST:PORT" in errors, errors)
+    for word in ("here", "127.0.0.1:99999", "127.0.0.1:1e4"):
+        status, _, errors = tried(word, address[1])
+        check("no address", status == 2 and f"{word} is no HOST:PORT" in errors, errors)
 
 
 def main():
@@ -219,6 +242,7 @@ def main():
         server.addresses()
         check_move(source, server, proxy)
         check_refused(source, server)
+        check_going_on(source, server)
         check_stopped(source, server)
     results.finish()
 

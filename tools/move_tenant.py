@@ -5,7 +5,8 @@ Usage: tools/move_tenant.py FROM TO [--once]. FROM and TO are HOST:PORT: a memca
 
 It copies in two passes. The first one takes all items, while clients go on. Then it waits for a line on its standard input: stop the
 clients first, by stopping the proxy before memcached, or otherwise. The second pass takes what has changed since, by the items' uniques, and
-deletes what is gone; then both servers' items are compared. With --once there is no first pass.
+deletes what is gone; then both servers' items are compared, and memcached is asked once more which keys it holds, so that clients that went on
+show. With --once there is no first pass.
 
 An item with an expiry isn't copied, since it would never expire here; nor is one that wfmc refuses, for its size, its key or the quota. How
 many there were of each is printed, and how many numbers have blanks behind them, as memcached's decr leaves them: these are copied as they
@@ -175,13 +176,18 @@ class Move:
         self.uniques.pop(key, None)
 
     def different(self):
-        """The copied keys whose items aren't the same at both."""
+        """The keys whose items aren't the same at both: copied ones that differ or are gone from memcached, and new ones there."""
+        lasting = {item.key: item for item in listed(self.source) if not item.expires}
+        wrong = self.uniques.keys() - lasting.keys()
+        new = lasting.keys() - self.uniques.keys() - self.refused.keys()
         source, target = Server(self.source), Server(self.target)
-        wrong = []
-        for batch in batches([item for item in listed(self.source) if not item.expires and item.key in self.uniques]):
+        wrong |= {key for key in new if not KEY.fullmatch(key)}
+        for batch in batches(lasting[key] for key in new - wrong):
+            wrong |= source.items([item.key for item in batch]).keys()
+        for batch in batches(lasting[key] for key in lasting.keys() & self.uniques.keys()):
             keys = [item.key for item in batch]
             here, there = source.items(keys), target.items(keys)
-            wrong += [key for key in keys if (here.get(key) or there.get(key)) and self._bare(here, key) != self._bare(there, key)]
+            wrong |= {key for key in keys if (here.get(key) or there.get(key)) and self._bare(here, key) != self._bare(there, key)}
         return wrong
 
     @staticmethod
@@ -202,7 +208,7 @@ def main():
     words = parser.parse_args()
     move = Move(words.source, words.target)
     for address in (words.source, words.target):
-        if not re.fullmatch(r".+:\d+", address):
+        if not re.fullmatch(r".+:\d{1,5}", address) or int(address.rpartition(":")[2]) > 65_535:
             parser.error(f"{address} is no HOST:PORT")
         version = Server(address).replies_to([b"version\r\n"])[0].decode(errors="replace")
         print(f"{address}: {version}", flush=True)
@@ -217,13 +223,15 @@ def main():
     if move.padded:
         print(f"{len(move.padded)} are numbers with blanks behind them, which incr and decr refuse here")
     wrong = move.different()
-    print(f"{len(move.uniques) - len(wrong)} items are the same at both" + (f", {len(wrong)} differ: did clients go on?" if wrong else ""))
+    told = f", {len(wrong)} differ, are gone from {words.source} or are new there: did clients go on?" if wrong else ""
+    print(f"{len(move.uniques.keys() - wrong)} items are the same at both{told}")
     return 1 if move.refused or wrong else 0
 
 
-try:
-    sys.exit(main())
-except (Stop, OSError) as error:
-    sys.exit(f"tools/move_tenant.py: {error}")
-except KeyboardInterrupt:
-    sys.exit(130)
+if __name__ == "__main__":
+    try:
+        sys.exit(main())
+    except (Stop, OSError) as error:
+        sys.exit(f"tools/move_tenant.py: {error}")
+    except KeyboardInterrupt:
+        sys.exit(130)
