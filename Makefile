@@ -134,6 +134,7 @@ bench: kit ## measures the built programs; the figures of docs/BENCHMARKS.md com
 	@bench/benches.sh cells
 	@bench/benches.sh places 31
 	@python3 bench/submits.py
+	@python3 bench/rows.py 1 --seconds 2 --log-bytes 268435456
 	@python3 bench/wfmc.py
 	@python3 bench/neighbours.py
 	@python3 bench/operating.py
