@@ -106,23 +106,23 @@ differential: kit ## a differential test: compares mc_schedule with an oracle ov
 	@tools/prove.sh mc_schedule >&2
 	@python3 tests/differential.py
 
-wrong-definitions: ## prints which law each wrong definition of the shared log breaks: the table of docs/QUESTIONS.md
+wrong-definitions: ## prints which law each wrong definition of the shared log breaks: the table of docs/QUESTIONS.md; in the gate too
 	@python3 tests/wrong_definitions.py
 
-core-states: ## counts the reachable states of a small core
+core-states: ## counts the reachable states of a small core, as many as a test of mc_replica_tests has to find; in the gate too
 	@python3 tests/core_states.py
 
 outliving: kit ## tests that the borrow checker refuses a replica, a reply and tables that are kept past what they borrow from, in some minutes
 	@python3 tests/outliving.py
 
-manual: ## checks the manual pages against the programs as built, and tests installing into temporary folders
+manual: ## checks the manual pages against the programs as built, and tests installing into temporary folders; in the gate too
 	@tests/manual.sh
 	@tests/install_selftest.sh
 
-trying: kit ## tests make try and make run, in some minutes
+trying: kit ## tests make try and make run, in some minutes; what needs no compiling is in the gate too
 	@tests/try_selftest.sh
 
-packaging: ## tests the packages of the programs as built: installing, serving, upgrading and purging under a temporary root
+packaging: ## tests the packages of the programs as built: installing, serving, upgrading and purging under a temporary root; in the gate too
 	@tests/package_selftest.sh
 
 bench: kit ## measures the built programs; the figures of docs/BENCHMARKS.md come from it

@@ -5,11 +5,17 @@ On purpose it uses nothing of oracle/core.py: the number has to come from a seco
 
 A state is what each worker shows (phase, places learned and replayed, mark, proposals, commands announced), how many places
 were decided when it announced its latest command, how many commands the worker it has looked at had announced, and the decided
-places. The test `every_state_of_a_small_core_is_sound` of mc_replica_tests finds the same number.
+places. The test `every_state_of_a_small_core_is_sound` of mc_replica_tests has to find the same number.
+
+Usage: tests/core_states.py [WORKERS PLACES]. Without these words it takes those of that test, and the last line is 'N passed, M failed'.
 """
 
+import re
 import sys
 from collections import deque
+
+from harness import repository
+from harness.results import Results
 
 IDLE, PENDING, LOOKED, STOPPED = range(4)
 
@@ -59,6 +65,21 @@ def states(count, places):
     return len(seen)
 
 
+def wanted():
+    """How many states that test looks for."""
+    text = (repository.ROOT / "crates/mc_replica_tests/src/states.rt").read_text(encoding="utf-8")
+    return int(re.search(r"^const STATES: usize = ([\d_]+);$", text, re.MULTILINE)[1])
+
+
+def main():
+    workers, places = (int(word) for word in sys.argv[1:]) if sys.argv[1:] else (2, 3)
+    found = states(workers, places)
+    print(f"{workers} workers and {places} places: {found} states")
+    if not sys.argv[1:]:
+        results = Results()
+        results.check("the states that the test of mc_replica_tests looks for", found == wanted(), wanted())
+        results.finish()
+
+
 if __name__ == "__main__":
-    workers, places = (int(word) for word in sys.argv[1:]) if len(sys.argv) == 3 else (2, 3)
-    print(f"{workers} workers and {places} places: {states(workers, places)} states")
+    main()

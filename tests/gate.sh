@@ -2,9 +2,10 @@
 # The gate: the kit's own (every proof from nothing, the mutants of must-fail/, the tests, the programs on their stored runs), and then the
 # built programs on their golden tests, wfmc over sockets, whether its clients' histories are linearizable, a round of the fuzzer (these two
 # over one log, and over one after another), calls of workers with each allocation refused, the metrics of an example by an oracle and those
-# of wfmc by what its clients know, that no crate cites another's proofs but those of a crate of lemmas, that the picture of the crates and
-# the generated documents are up to date, and that the compatibility suite has the rows of docs/PROTOCOL.md.
-# The last line is 'N passed, M failed', in total.
+# of wfmc by what its clients know, the manual pages by the programs' --help, installing and packages under temporary folders, the states of a
+# small core and its wrong definitions, that no crate cites another's proofs but those of a crate of lemmas, that the picture of the crates and
+# the generated documents are up to date, and that the compatibility suite has the rows of docs/PROTOCOL.md; and the self tests of scripts which
+# need neither a proof nor a compiler. Needs gcc. The last line is 'N passed, M failed', in total.
 set -euo pipefail
 cd "$(dirname "$0")/.."
 
@@ -27,8 +28,9 @@ passes() {
     if "$@"; then echo "1 passed, 0 failed"; else echo "0 passed, 1 failed" && return 1; fi
 }
 
-# A run of tools/prove.sh that was killed leaves its rooms, which rt would take for crates.
-rm -rf out/rooms
+# A run of tools/prove.sh that was killed leaves its rooms, which rt would take for crates; one that is at work ends first.
+mkdir -p out
+flock out/prove.lock rm -rf out/rooms
 count rt ci
 echo "the golden tests of the built programs"
 count tests/programs.sh
@@ -45,16 +47,22 @@ echo "a round of the fuzzer on wfmc"
 count python3 tests/fuzz.py --seed 77 --round 3
 count python3 tests/fuzz.py --seed 77 --round 2 --generations
 count python3 tests/fuzz.py --seed 77 --round 1 --generations --within --log-bytes 4000
-if command -v gcc >/dev/null; then
-    echo "calls of workers, with each allocation refused in turn"
-    count python3 tests/allocation_failures.py calls
-else
-    echo "gcc is missing, so no allocation is refused"
-fi
+echo "calls of workers, with each allocation refused in turn"
+count python3 tests/allocation_failures.py calls
 echo "the metrics of an example, as Prometheus reads them"
 count passes python3 tests/exposition.py
 echo "the metrics of wfmc, while it serves"
 count python3 tests/metrics.py
+echo "the manual pages, installing, and packages"
+count tests/manual.sh
+count tests/install_selftest.sh
+count tests/package_selftest.sh
+echo "the states of a small core, and wrong definitions of it"
+count python3 tests/core_states.py
+count python3 tests/wrong_definitions.py
+echo "the scripts that prove and that try"
+count tests/prove_selftest.sh
+count tests/try_selftest.sh refusals
 echo "names, layers, the picture of the crates, the generated documents, and the rows of what differs from memcached"
 count passes python3 tools/layers.py
 count passes tools/picture.py --check
@@ -63,5 +71,5 @@ count passes python3 tools/reading.py --check
 count passes python3 tools/compatibility/differences.py --check
 
 awk '{ passed += $1; failed += $3; if ($0 !~ /^[0-9]+ passed, [0-9]+ failed$/) { print; failed++ } }
-     END { print passed + 0 " passed, " failed + 0 " failed" }' "${sums[@]}"
+     END { print passed + 0 " passed, " failed + 0 " failed"; exit (failed > 0) }' "${sums[@]}" || failed=1
 exit "$failed"

@@ -2,6 +2,7 @@
 # Tests make try and make run: a port that is taken is refused at once, as for make serve too; that wfmc has died is an error; wfmc serves
 # two tenants apart, says that nothing was proved and how long that took, and leaves neither a process nor a file when it is interrupted; and
 # mc_stdin prints what its first run must print. Some minutes, most of them compiling. The last line is 'N passed, M failed'.
+# Usage: tests/try_selftest.sh [refusals]. With the word only what needs no compiling, in some seconds.
 set -euo pipefail
 cd "$(dirname "$0")/.."
 
@@ -94,6 +95,11 @@ check "no program" eval '! tools/try.sh wfmd >/dev/null 2>&1'
 
 check "a wfmc that dies is an error" reports_a_death "$shop"
 check "no file is left then" leaves_nothing
+if [ "${1:-}" = refusals ]; then
+    finish
+    exit
+fi
+
 check "make try" starts "$shop"
 grep 'ready after' "$folder/output" || true
 check "it says what wasn't proved" says "$folder/output" "Nothing was proved: make serve proves wfmc"
