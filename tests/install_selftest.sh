@@ -2,7 +2,8 @@
 # Tests tools/install.sh: installs into temporary folders with the prefix /usr/local, with another, and without DESTDIR and with a blank and a
 # percent sign in the prefix, where the installed wfmc serves then. For each it checks the files and that there are no others, their modes and
 # bytes, the unit (by systemd-analyze, where installed), the pages (by man, where installed), that a later one's defaults file takes the place
-# of one that wasn't changed, and that uninstalling leaves no file but one that was, and no folder of documents. Nothing is written elsewhere. The last line is 'N passed, M failed'.
+# of one that wasn't changed, and that uninstalling leaves no file but one that was, and no folder of documents. Nothing is written elsewhere.
+# The last line is 'N passed, M failed'.
 set -euo pipefail
 cd "$(dirname "$0")/.."
 

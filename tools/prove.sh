@@ -23,6 +23,10 @@ for crate in "$@"; do
     [[ -n "$crate" && -n "${below[$crate]+listed}" ]] || { echo "tools/prove.sh: crates.txt has no crate '$crate'" >&2; exit 2; }
 done
 
+mkdir -p out
+exec {lock}>out/prove.lock
+flock -n "$lock" || { echo "waiting for another run of tools/prove.sh"; flock "$lock"; }
+
 # The crates to prove, each after its libraries.
 order=()
 add() {
@@ -50,10 +54,6 @@ closure() {
     echo "$1"
     for library in ${below[$1]}; do closure "$library"; done
 }
-
-mkdir -p out
-exec {lock}>out/prove.lock
-flock -n "$lock" || { echo "waiting for another run of tools/prove.sh"; flock "$lock"; }
 
 # A room for one crate: its folder, those of the libraries below it, and a list of these alone.
 rooms=$PWD/out/rooms
