@@ -1,10 +1,11 @@
 #!/usr/bin/env bash
-# Tests tools/package.sh on the programs as built: the same bytes twice; a program that is older than a text is refused, and one that asks for
-# more than the image has; the Debian package and the tar file have one tree, and no more than it
-# should have; the checksums of the sources hold; lintian, where installed, finds no error. The package is installed by dpkg under a temporary
-# root, with a database of its own; wfmc serves from there by the words of its defaults file and under the limits of its unit; an upgrade keeps a
-# defaults file that was changed, and a running wfmc; purging leaves nothing. The image's files are put together as etc/Containerfile has them, with
-# Debian's bash and prlimit, and its command and health check run there, in namespaces of their own, where the kernel grants them.
+# Tests tools/package.sh on the programs as built: the same bytes twice; the Debian package and the tar file have one tree, and no more than it
+# should have; the checksums of the sources hold; lintian, where installed, finds no error. A program that is older than a text is refused, and
+# one that asks for a later C library than the image has; the commit is one with changes where a document was changed. The package is installed
+# by dpkg under a temporary root, with a database of its own; wfmc serves from there by the words of its defaults file and under the limits of its
+# unit; an upgrade keeps a defaults file that was changed, and a running wfmc; purging leaves nothing. The image's files are put together as
+# etc/Containerfile has them, with Debian's bash and prlimit, and its command and health check run there, in namespaces of their own, where the
+# kernel grants them.
 # Nothing is written elsewhere. The last line is 'N passed, M failed'.
 set -euo pipefail
 cd "$(dirname "$0")/.."
@@ -47,12 +48,23 @@ make_packages() {
 # On a repository of its own, whose programs were made before its one text, or ask for a C library that the image doesn't have.
 make_another() {
     mkdir -p "$folder/another/crates/wfmc/src"
-    cp -r --parents tools etc HANDLES crates.txt "$folder/another"
+    cp -r --parents README.md LICENSE HANDLES crates.txt docs etc examples man tools "$folder/another"
     for it in "${programs[@]}"; do cp --parents "crates/$it/out/$it" "$folder/another"; done
     touch -d tomorrow "$folder/another/crates/wfmc/src/main.rt"
 }
 refuses_another() {
     ! "$folder/another/tools/package.sh" "$folder/another/out" >"$folder/said" 2>&1 && says "$folder/said" "$1" && [ ! -e "$folder/another/out" ]
+}
+
+# What it says of the commit, once this is one of git.
+in_another() { git -C "$folder/another" -c user.name=a -c user.email=a -c commit.gpgsign=false "$@"; }
+commits_another() {
+    echo out/ >"$folder/another/.gitignore"
+    { in_another init && in_another add . && in_another commit -m First; } >"$folder/said" 2>&1 || { cat "$folder/said"; return 1; }
+}
+another_is_of() {
+    "$folder/another/tools/package.sh" "$folder/another/out" >"$folder/said" 2>&1 || { cat "$folder/said"; return 1; }
+    grep -qx "commit: $(in_another rev-parse HEAD)$1" "$folder/another/out/tree/usr/share/doc/wfmc/built-from"
 }
 
 has_one_tree() {
@@ -160,6 +172,15 @@ check "a program that is older than a text" refuses_another "crates/wfmc/src/mai
 touch -d yesterday "$folder/another/crates/wfmc/src/main.rt" "$folder/another/HANDLES" "$folder/another/crates.txt"
 echo GLIBC_9.9 >>"$folder/another/crates/mc_stdin/out/mc_stdin"
 check "a program that asks for a later C library" refuses_another "the programs ask for version 9.9 of the C library"
+cp "crates/mc_stdin/out/mc_stdin" "$folder/another/crates/mc_stdin/out/mc_stdin"
+if command -v git >/dev/null; then
+    check "a commit" commits_another
+    check "it is named" another_is_of ""
+    echo "A line more." >>"$folder/another/docs/CLIENTS.md"
+    check "and that a document was changed" another_is_of ", with changes"
+else
+    echo "git isn't there: what is said of a commit isn't looked at"
+fi
 check "one tree" has_one_tree
 check "no folder in the tar file, which would take the place of a link" has_no_folder
 check "its files" has_the_files_alone "$folder/deb"
