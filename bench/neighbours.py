@@ -155,7 +155,8 @@ def wfmc(program, workers, options, library):
     """A server with the tenants' quotas, within the memory that docs/OPERATING.md says that it takes, and the ports of the quiet and of the noisy one."""
     most = number(workers, PLACES, [LARGE, LARGE], CONNECTIONS * held(names=1) + held(), LOG_BYTES)
     server = Server(program, ("--workers", str(workers), *ENDLESS, *options), {"quiet": LARGE, "noisy": LARGE}, None, preloading(library), most)
-    server.await_workers("quiet")
+    with server.ended_on_failure():
+        server.await_workers("quiet")
     return server, server.ports["quiet"], server.ports["noisy"]
 
 

@@ -32,7 +32,8 @@ def serve(options=(), tenants=("a",), quotas=LARGE, **limits):
     """A started server whose workers are there."""
     server = Server(PROGRAM, options, dict.fromkeys(tenants, quotas), **limits)
     if tenants and server.is_ready:
-        server.await_workers(tenants[0])
+        with server.ended_on_failure():
+            server.await_workers(tenants[0])
     return server
 
 

@@ -1,12 +1,27 @@
-"""A process that a script starts."""
+"""A process that a script starts.
+
+SIGTERM ends a script that imports this by an exit of status 143, so that its blocks end too, and with them the processes that it started.
+"""
 
 import contextlib
 import os
 import signal
 import subprocess
+import sys
 
 SECONDS = 60
 TICKS = os.sysconf("SC_CLK_TCK")
+
+
+def end_by_sigterm(*_):
+    """Ends the script as a shell says of this signal. A second one would cut off what the first has begun to end."""
+    signal.signal(signal.SIGTERM, signal.SIG_IGN)
+    sys.exit(128 + signal.SIGTERM)
+
+
+signal.signal(signal.SIGTERM, end_by_sigterm)
+# A process of a pool is ended by the signal itself: it would take an exit for an answer of its call, and go on.
+os.register_at_fork(after_in_child=lambda: signal.signal(signal.SIGTERM, signal.SIG_DFL))
 
 
 def sockets(pid):
@@ -86,6 +101,15 @@ class Process:
         if self.is_running():
             self.process.send_signal(how)
         return self.wait()
+
+    @contextlib.contextmanager
+    def ended_on_failure(self):
+        """For what follows the start and comes before its own block: where that fails, the process is ended."""
+        try:
+            yield
+        except BaseException:
+            self.end()
+            raise
 
     def __enter__(self):
         return self

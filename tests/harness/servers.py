@@ -6,6 +6,7 @@ import pathlib
 import pwd
 import re
 import resource
+import select
 import socket
 import subprocess
 import sys
@@ -66,15 +67,28 @@ class Server(Process):
         self.workers = int(options[options.index("--workers") + 1]) if "--workers" in options else 2
         self.accepted = 0
         self.ports, self.is_ready = {}, False
-        self._read_ports()
+        with self.ended_on_failure():
+            self._read_ports(time.monotonic() + SECONDS)
 
-    def _read_ports(self):
-        for line in self.process.stdout:
+    def _read_ports(self, until):
+        while line := self._line(until):
             said, name, address, *_ = line.decode().split() + ["", "", ""]
             self.is_ready = said == "ready"
             if said != "listening":
                 return
             self.ports[name] = int(address.rpartition(":")[2])
+
+    def _line(self, until):
+        """The next line that it prints, and no byte behind it; nothing once it has ended. The line is to come until then."""
+        line, output, poll = bytearray(), self.process.stdout.fileno(), select.poll()
+        poll.register(output)
+        while not line.endswith(b"\n"):
+            if not poll.poll(1000 * max(0.0, until - time.monotonic())):
+                raise TimeoutError(f"wfmc isn't ready after {SECONDS} seconds")
+            if not (byte := os.read(output, 1)):
+                break
+            line += byte
+        return bytes(line)
 
     def addresses(self):
         """The words `NAME=ADDRESS` of its tenants."""
@@ -141,8 +155,9 @@ class Memcached(Process):
             environment = {**os.environ, "MEMCACHED_PORT_FILENAME": str(file)}
             words = [*before, "memcached", *user, "-U", "0", "-l", "127.0.0.1", "-p", "-1", *options]
             super().__init__(words, env=environment, stdout=subprocess.DEVNULL, stderr=subprocess.DEVNULL)
-            wait_for(lambda: file.exists() and file.read_text().startswith("TCP INET: ") and file.read_text().endswith("\n"), "memcached")
-            self.port = int(file.read_text().split()[2])
+            with self.ended_on_failure():
+                wait_for(lambda: file.exists() and file.read_text().startswith("TCP INET: ") and file.read_text().endswith("\n"), "memcached")
+                self.port = int(file.read_text().split()[2])
 
 
 class Relay(Process):
@@ -152,4 +167,5 @@ class Relay(Process):
         self.port = free_port()
         listen = f"TCP-LISTEN:{self.port},bind=127.0.0.1,reuseaddr,fork,nodelay"
         super().__init__(["socat", "-t", str(SECONDS), listen, address], stderr=subprocess.DEVNULL)
-        wait_for(lambda: not self.is_running() or listens(self.port), "socat")
+        with self.ended_on_failure():
+            wait_for(lambda: not self.is_running() or listens(self.port), "socat")

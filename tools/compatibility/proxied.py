@@ -68,11 +68,14 @@ class Cluster:
         self.file.write_text(text)
         self.pools = {"shop": ports["22121"], "blog": ports["22122"]}
         self.instances = []
-        for at in "123":
-            self.instances.append(Instance(program, {"shop": ports[f"112{at}1"], "blog": ports[f"112{at}2"]}))
         words = ["nutcracker", "-c", str(self.file), "-s", str(free_port()), "-a", "127.0.0.1", "-o", f"{folder}/log", "-p", f"{folder}/pid"]
-        self.proxy = Process(words)
-        wait_for(lambda: not self.proxy.is_running() or self.listens(), "nutcracker")
+        with contextlib.ExitStack() as started:
+            for at in "123":
+                self.instances.append(Instance(program, {"shop": ports[f"112{at}1"], "blog": ports[f"112{at}2"]}))
+                started.callback(self.instances[-1].stop)
+            proxy = started.enter_context(Process(words))
+            wait_for(lambda: not proxy.is_running() or self.listens(), "nutcracker")
+            self.started = started.pop_all()
 
     def listens(self):
         with contextlib.suppress(OSError):
@@ -80,9 +83,7 @@ class Cluster:
             return True
 
     def close(self):
-        self.proxy.end()
-        for instance in self.instances:
-            instance.stop()
+        self.started.close()
 
 
 def tried(function, *words, **named):

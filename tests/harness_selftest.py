@@ -1,0 +1,133 @@
+#!/usr/bin/env python3
+"""Tests tests/harness itself, with stand-ins for the servers, in some seconds: a server that hangs before it is ready, one that never listens, and
+a script that is told to end. None of them leaves a process. The last line is 'N passed, M failed'.
+"""
+
+import contextlib
+import os
+import pathlib
+import signal
+import subprocess
+import sys
+import tempfile
+import time
+
+from harness import servers
+from harness.results import Results
+
+PATIENCE = 10
+results = Results()
+check = results.check
+
+# What a script does that has one process in a block and one that isn't in any yet, and prints both.
+SCRIPT = """
+import sys, time
+from harness.processes import Process
+with Process(["sleep", "100"]) as first:
+    second = Process(["sleep", "100"])
+    with second.ended_on_failure():
+        print(first.pid, second.pid, flush=True)
+        {what}
+"""
+
+
+def is_gone(pid):
+    """Whether a process ends soon; one that nobody has waited for has ended too."""
+    until = time.monotonic() + PATIENCE
+    while time.monotonic() < until:
+        try:
+            state = pathlib.Path(f"/proc/{pid}/stat").read_text(encoding="ascii").rpartition(")")[2].split()[0]
+        except (FileNotFoundError, ProcessLookupError):
+            return True
+        if state == "Z":
+            return True
+        time.sleep(0.02)
+    return False
+
+
+@contextlib.contextmanager
+def stand_in(name, text):
+    """A program of this name in a folder of its own, which writes its process's number to the file `pid` there first."""
+    with tempfile.TemporaryDirectory() as folder:
+        program = pathlib.Path(folder, name)
+        program.write_text(f'#!/bin/sh\necho $$ >"{folder}/pid"\n{text}\n', encoding="ascii")
+        program.chmod(0o755)
+        yield program
+
+
+def failure_of(start, program):
+    """What starting a server raised, after how many seconds, and whether its process is gone."""
+    begun = time.monotonic()
+    try:
+        start()
+        said = "nothing"
+    except (Exception, SystemExit) as error:
+        said = f"{type(error).__name__}: {error}"
+    took = time.monotonic() - begun
+    return said, took, is_gone(int(program.with_name("pid").read_text(encoding="ascii")))
+
+
+def check_servers():
+    """Servers that hang: they have a second here."""
+    servers.SECONDS = 1
+    for what, text in (("nothing", ""), ("its listeners", "echo listening a 127.0.0.1:1"), ("half a line", "printf 'listening a'")):
+        with stand_in("wfmc", f"{text}\nexec sleep 100") as program:
+            said, took, gone = failure_of(lambda: servers.Server(str(program)), program)
+            check(f"wfmc hangs once it has said {what}", said == "TimeoutError: wfmc isn't ready after 1 seconds" and took < PATIENCE, (said, took))
+            check(f"it is ended, once it has said {what}", gone)
+    with stand_in("wfmc", "echo listening a 127.0.0.1:70\necho ready\nprintf 'done 7\\n'\necho wrong >&2") as program, servers.Server(str(program)) as server:
+        check("wfmc is ready", server.ports == {"a": 70} and server.is_ready, server.ports)
+        check("what it says behind that", server.wait() == (0, b"done 7\n", b"wrong\n"))
+    with stand_in("wfmc", "echo wfmc: bad settings >&2; exit 2") as program, servers.Server(str(program)) as server:
+        check("wfmc ends before it is ready", not server.ports and not server.is_ready and server.wait() == (2, b"", b"wfmc: bad settings\n"))
+    for name, start in (("memcached", servers.Memcached), ("socat", lambda: servers.Relay("EXEC:true"))):
+        with stand_in(name, "exec sleep 100") as program:
+            path, os.environ["PATH"] = os.environ["PATH"], f"{program.parent}:{os.environ['PATH']}"
+            said, took, gone = failure_of(start, program)
+            os.environ["PATH"] = path
+            check(f"{name} never listens", said == f"SystemExit: {name} doesn't listen" and took < PATIENCE, (said, took))
+            check(f"{name} is ended", gone)
+
+
+def check_script(what, does, how, wanted):
+    """A script that is told to end so, while it does something, has this status, and its processes are gone."""
+    words = [sys.executable, "-c", SCRIPT.format(what=does)]
+    with subprocess.Popen(words, cwd=pathlib.Path(__file__).parent, stdout=subprocess.PIPE, stderr=subprocess.DEVNULL, text=True) as script:
+        pids = script.stdout.readline().split()
+        script.send_signal(how)
+        try:
+            status = script.wait(PATIENCE)
+        except subprocess.TimeoutExpired:
+            status = "none"
+            script.kill()
+    check(f"{what}: its status", status == wanted, status)
+    check(f"{what}: its processes are gone", len(pids) == 2 and all(is_gone(pid) for pid in pids), pids)
+
+
+def check_fork():
+    """A process of a pool isn't asked to unwind."""
+    ours, theirs = os.pipe()
+    if not (child := os.fork()):
+        with contextlib.suppress(SystemExit):
+            os.write(theirs, b"x")
+            time.sleep(PATIENCE)
+        os._exit(0)
+    os.read(ours, 1)
+    os.kill(child, signal.SIGTERM)
+    check("a process of a pool ends by the signal", os.waitpid(child, 0)[1] == signal.SIGTERM)
+
+
+def check_scripts():
+    check_script("a script that is told to end", "time.sleep(100)", signal.SIGTERM, 143)
+    check_script("one that waits for a process", "second.process.wait()", signal.SIGTERM, 143)
+    check_script("one that fails", "sys.stdin.missing", signal.SIGCONT, 1)
+
+
+def main():
+    check_servers()
+    check_scripts()
+    check_fork()
+    results.finish()
+
+
+main()
