@@ -51,7 +51,6 @@ AT_A_TIME = 64
 LARGE = (1_000_000, 1_000_000_000)
 MOST = (1_048_576, 1_073_741_824)
 QUOTAS = ((1, 60), (3, 300), (4, 70_000), (1_000, 2_000_000), LARGE)
-VERSION = b"VERSION 1.0.0\r\n"
 LIMITED = ("first-of-four", "another", "third_in_order", "last")
 # Whether the log is full at first, as far as it is known.
 full_at_first = False
@@ -220,7 +219,7 @@ def storm(port, seed):
         kind = chance.random()
         if kind < 0.4:
             client.sendall(b"version\r\n")
-            if client.recv(100) != VERSION:
+            if client.recv(100) != protocol.VERSION:
                 wrong = "a connection wasn't answered"
         elif kind < 0.6:
             client.sendall(chance.choice((b"v", b"set a 0 0 10\r\nabc", b"get a\r\n" * 100)))
@@ -236,7 +235,7 @@ def steady(port, _seed):
         for visitor in (client, connect(port)):
             begun = time.monotonic()
             visitor.sendall(b"version\r\n")
-            if visitor.recv(100) != VERSION:
+            if visitor.recv(100) != protocol.VERSION:
                 wrong = "another answer"
             longest = max(longest, time.monotonic() - begun)
         visitor.close()
@@ -464,7 +463,7 @@ def answered(clients):
     count, waiting = 0, list(clients)
     while waiting and (ready := select.select(waiting, [], [], LATE)[0]):
         for client in ready:
-            count += client.recv(100) == VERSION
+            count += client.recv(100) == protocol.VERSION
             client.close()
             waiting.remove(client)
     for client in waiting:
@@ -488,7 +487,7 @@ def check_dead_arrivals(program):
         except OSError as error:
             reply = f"{error}"
         client.close()
-        yield "after connections that came and went", None if reply == VERSION else f"another tenant's client received {reply!r}"
+        yield "after connections that came and went", None if reply == protocol.VERSION else f"another tenant's client received {reply!r}"
 
 
 def rush(port):
@@ -559,7 +558,7 @@ def check_refused_threads(program):
 
 def is_served(client):
     try:
-        return client.recv(100) == VERSION
+        return client.recv(100) == protocol.VERSION
     except OSError:
         return False
     finally:

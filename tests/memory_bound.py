@@ -16,14 +16,13 @@ from harness import repository
 from harness.bounds import MEBIBYTE, held, number
 from harness.results import Results
 from harness.servers import Server
-from oracle.protocol import STARVED
+from oracle.protocol import NO_ROOM, STARVED
 
 PROGRAM = sys.argv[1] if len(sys.argv) > 1 else repository.program("wfmc")
 BLOCK = MEBIBYTE - 1_000
 QUOTA = (1_000, 8 * MEBIBYTE)
 WORKERS, PLACES, LOG_BYTES = 2, 4_096, 16 * MEBIBYTE
 CONNECTIONS, SETS = 40, 64
-NO_ROOM = b"SERVER_ERROR out of memory storing object\r\n"
 results = Results()
 check = results.check
 

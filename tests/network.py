@@ -7,8 +7,8 @@ in the middle of a block, one that resets, one that never reads, more connection
 commands of 8 clients at once, all places of the longest log, and logs that follow one another once their places are taken, or their bytes,
 while clients are cut off around each turn over.
 An administrator, whose quotas are in force at every worker, and whom no tenant locks out. Tenants for whom places are kept, and clients who
-are served by another worker where theirs has no place. And clients that nobody may forget: the process
-is stopped until many have connected, asked or left, and then goes on, while a worker is busy, or descriptors are scarce. Where no client is
+are served by another worker where theirs has no place (network_places.py). And clients that nobody may forget: the process is stopped until
+many have connected, asked or left, and then goes on, while a worker is busy, or descriptors are scarce. Where no client is
 left, everything is given back, and no thread wakes. Clients that send more behind their last request, and read late, get all their replies;
 and where a wait for events fails (tests/fail_wait.c, which needs gcc), everything ends.
 Prints a line for each failure; the last line is 'N passed, M failed'.
@@ -16,43 +16,38 @@ Prints a line for each failure; the last line is 'N passed, M failed'.
 
 import concurrent.futures
 import contextlib
+import functools
 import itertools
-import os
 import pathlib
 import random
 import resource
 import select
 import shutil
-import signal
 import socket
 import subprocess
 import sys
 import threading
 import time
 
-from harness import preload, repository
+import network_places
+from harness import preload, repository, servers
+from harness.answers import PATIENCE, answer, are_answered, ask, is_answered, is_answered_again, is_closed, is_ended
 from harness.client import exchange, late_reply, reset
 from harness.results import Results
 from harness.servers import ADMIN, METRICS, Server, free_port
+from network_places import LARGE, waiting_room
+from oracle.protocol import BAD_FORMAT, NO_ROOM, VERSION
 
 PROGRAM = sys.argv[1] if len(sys.argv) > 1 else repository.program("wfmc")
 SHORT = 4096
-PATIENCE = 20
-VERSION = b"VERSION 1.0.0\r\n"
-BAD_FORMAT = b"CLIENT_ERROR bad command line format\r\n"
 results = Results()
 check = results.check
+ending_of = functools.partial(servers.ending_of, PROGRAM)
 
 
 def in_steps(sent, step):
     """The bytes in pieces of this size, or whole."""
     return [sent[at : at + step] for at in range(0, len(sent), step)] if step else [sent]
-
-
-def answer(server, tenant, sent):
-    """The replies to these bytes, up to the end of the stream; `None` where it ends another way."""
-    replies, ending = exchange(server.ports[tenant], [sent])
-    return replies if ending == "end" else None
 
 
 def options_of(words):
@@ -88,71 +83,11 @@ def check_golden_tests():
                     check(what, exchange(server.ports["a"], in_steps(sent, step)) == (wanted, "end"))
 
 
-LARGE = (1000, 100_000_000)
 MEGABYTE = 1_000_000
 # Gets of this many keys keep a worker busy: of an item of a megabyte, and of no item.
 BLOCKS = 100
 MISSES = 30_000
 LATE_READERS = 40
-
-
-def ask(server, name, request=b"version\r\n"):
-    """A client that has sent a request."""
-    client = server.connect(name, PATIENCE)
-    client.sendall(request)
-    return client
-
-
-def is_answered(client, wanted=VERSION):
-    """Whether these bytes come next."""
-    received = bytearray()
-    try:
-        while len(received) < len(wanted) and (piece := client.recv(len(wanted) - len(received))):
-            received += piece
-    except OSError:
-        pass
-    return received == wanted
-
-
-def are_answered(clients, wanted=VERSION):
-    return all(is_answered(client, wanted) for client in clients)
-
-
-def is_answered_again(client):
-    """Whether one more request is answered, by which time the worker has noticed who closed before it."""
-    client.sendall(b"version\r\n")
-    return is_answered(client)
-
-
-def is_ended(client):
-    """Whether the end comes next."""
-    try:
-        return client.recv(1) == b""
-    except OSError:
-        return False
-
-
-def is_closed(client):
-    """Whether the stream ends or is reset without another byte."""
-    try:
-        return client.recv(1) == b""
-    except ConnectionResetError:
-        return True
-
-
-@contextlib.contextmanager
-def stopped(server):
-    """Stops the process for a block; what clients do waits in the system, and arrives together when it goes on."""
-    os.kill(server.pid, signal.SIGSTOP)
-    try:
-        yield
-    finally:
-        os.kill(server.pid, signal.SIGCONT)
-
-
-def waiting_room():
-    """How many connections may wait for a listener to accept them."""
-    return int(pathlib.Path("/proc/sys/net/core/somaxconn").read_text())
 
 
 def store_block(server):
@@ -220,15 +155,13 @@ def check_others_unnoticed():
 def check_too_many():
     """1,024 connections are served by a worker, in the order in which they came, and one more is closed without a byte. All but the first
     come while the worker is busy with that one's reply. Each needs a descriptor here and one there."""
-    _, most = resource.getrlimit(resource.RLIMIT_NOFILE)
-    resource.setrlimit(resource.RLIMIT_NOFILE, (min(most, 4096) if most != resource.RLIM_INFINITY else 4096, most))
     if min(resource.getrlimit(resource.RLIMIT_NOFILE)[0], waiting_room()) < 1100:
         print("1,024 connections aren't tried: too few are allowed here")
         return
     with Server(PROGRAM, ["--workers", "1"], {"a": LARGE}) as server:
         store_block(server)
         busy = server.connect("a")
-        with stopped(server):
+        with server.stopped():
             busy.sendall(get_of_many(BLOCKS))
             clients = [ask(server, "a", b"get l\r\n") for _ in range(1023)]
             last = server.connect("a")
@@ -240,113 +173,6 @@ def check_too_many():
         check("a place is free again", answer(server, "a", b"get l\r\n") == b"END\r\n")
         for client in clients:
             client.close()
-
-
-def held_places(server, tenant, most):
-    """Clients of a tenant who were answered, one after another, until one wasn't or there were as many."""
-    clients = []
-    for _ in range(most):
-        client = server.connect(tenant, PATIENCE)
-        with contextlib.suppress(ConnectionError):
-            client.sendall(b"version\r\n")
-        if not is_answered(client):
-            client.close()
-            break
-        clients.append(client)
-    return clients
-
-
-def has_descriptors(count, what):
-    """Whether as many connections are allowed here, where this would be tried with them."""
-    if resource.getrlimit(resource.RLIMIT_NOFILE)[0] < count + 100:
-        print(f"{what}: not tried, since too few connections are allowed here")
-        return False
-    return True
-
-
-def check_reserve():
-    """With --reserve a tenant who takes all that it can leaves each other its reserve, at each worker."""
-    if not has_descriptors(2_048, "reserves"):
-        return
-    with Server(PROGRAM, [*ADMIN, "--workers", "1", "--reserve", "100"], {"a": LARGE, "b": LARGE, "c": LARGE}) as server:
-        first = held_places(server, "a", 1_024)
-        check("a tenant takes what isn't kept for others", len(first) == 824, len(first))
-        second = held_places(server, "b", 1_024)
-        check("another has its reserve, and no more", len(second) == 100, len(second))
-        check("an administrator has a place", is_answered(ask(server, "admin", b"limit a 1000 1000\r\n"), b"OK\r\n"))
-        first.pop().close()
-        check("those who stay go on", is_answered_again(first[0]))
-        second += held_places(server, "b", 2)
-        check("a place that nobody is owed is anybody's", len(second) == 101, len(second))
-        third = held_places(server, "c", 1_024)
-        check("the third has its reserve still", len(third) == 100, len(third))
-        for client in first + second + third:
-            client.close()
-    with Server(PROGRAM, ["--workers", "2", "--reserve", "512"], {"a": LARGE, "b": LARGE}) as server:
-        first = held_places(server, "a", 1_100)
-        check("a tenant takes what isn't kept at two workers", len(first) == 1_024, len(first))
-        second = held_places(server, "b", 1_100)
-        check("another has its reserve at both", len(second) == 1_024, len(second))
-        for client in first + second:
-            client.close()
-    two = ("a=127.0.0.1:0,1,1", "b=127.0.0.1:0,1,1")
-    check("more is kept than there is", ending_of("--reserve", "513", *two) == (2, b"", b"wfmc: bad settings\n"))
-    why = b"wfmc: --reserve 513: 2 times that is not from 0 to 1024\n"
-    check("why", ending_of("--check", "--reserve", "513", *two) == (2, b"", why))
-    check("all is kept", ending_of("--check", "--reserve", "512", *two) == (0, b"wfmc: the settings can be served\n", b""))
-    most = ending_of("--check", "--reserve", str(2**64 - 1), *two)
-    check("far more", most == (2, b"", why.replace(b"513", b"%d" % (2**64 - 1))), most)
-
-
-def check_passing_on():
-    """A client whose worker has no place is served by another that has one; where none has, its connection is closed."""
-    if not has_descriptors(2_048, "passing on"):
-        return
-    with Server(PROGRAM, ["--workers", "2"], {"a": LARGE}) as server:
-        clients = held_places(server, "a", 2_048)
-        check("two workers' places", len(clients) == 2_048, len(clients))
-        check("one more than both have", is_closed(server.connect("a", PATIENCE)))
-        # Clients were handed to the workers in turn: all but the first of the second worker's leave.
-        staying, leaving = clients[::2] + clients[1:2], clients[3::2]
-        for client in leaving:
-            client.close()
-        check("those who stay go on", is_answered_again(staying[-1]))
-        later = held_places(server, "a", 1_023)
-        check("the other worker takes those for which one has no place", len(later) == 1_023, len(later))
-        check("again one more than both have", is_closed(server.connect("a", PATIENCE)))
-        check("all are served", all(is_answered_again(client) for client in staying + later))
-        for client in staying + later:
-            client.close()
-    # Who is passed on is still a client of its own tenant.
-    with Server(PROGRAM, ["--workers", "2"], {"a": LARGE, "b": LARGE}) as server:
-        for tenant in "ab":
-            answer(server, tenant, b"set k 0 0 1\r\n%b\r\n" % tenant.encode())
-        clients = held_places(server, "a", 2_048)
-        staying, leaving = clients[::2] + clients[1:2], clients[3::2]
-        for client in leaving:
-            client.close()
-        check("the second worker has places again", is_answered_again(staying[-1]))
-        others = held_places(server, "b", 4)
-        for client in others:
-            client.sendall(b"get k\r\n")
-        said = [client.recv(64) for client in others]
-        check("who is passed on is served as its own tenant's", said == [b"VALUE k 0 1\r\nb\r\nEND\r\n"] * 4, said)
-        for client in staying + others:
-            client.close()
-    # The last that is to be served comes to a worker without a place, when the other may have ended: it is served or closed, and isn't left.
-    with Server(PROGRAM, ["--workers", "2", "--connections", "2049"], {"a": LARGE}) as server:
-        clients = held_places(server, "a", 2_048)
-        for client in clients[1::2]:
-            client.close()
-        started = time.monotonic()
-        held_places(server, "a", 1)
-        check("the last is served or closed soon", time.monotonic() - started < PATIENCE / 2)
-        for client in clients[::2]:
-            client.close()
-        check("the end after all", server.wait() == (0, b"done 0\n", b""))
-
-
-NO_ROOM = b"SERVER_ERROR out of memory storing object\r\n"
 
 
 def check_admin():
@@ -375,33 +201,6 @@ def check_admin():
         check("they set nothing", answer(server, "a", b"set m 0 0 1\r\nx\r\n") == b"STORED\r\n")
 
 
-def check_admins_places():
-    """A tenant who holds all 1,024 places of the one worker locks no administrator out, of whom 16 have places, nor do these take a tenant's."""
-    if min(resource.getrlimit(resource.RLIMIT_NOFILE)[0], waiting_room()) < 1_100:
-        print("all places aren't tried: too few connections are allowed here")
-        return
-    with Server(PROGRAM, [*ADMIN, "--workers", "1"], {"a": LARGE}) as server:
-        first = [ask(server, "admin") for _ in range(4)]
-        check("four administrators before", are_answered(first))
-        clients = [ask(server, "a") for _ in range(1_024)]
-        check("a tenant takes all places", are_answered(clients))
-        check("and no more", is_closed(server.connect("a", PATIENCE)))
-        later = [ask(server, "admin", b"limit a 1 100\r\n") for _ in range(12)]
-        check("an administrator has a place", are_answered(later, b"OK\r\n"))
-        check("16 have", is_closed(server.connect("admin", PATIENCE)))
-        clients[0].sendall(b"set k 0 0 1\r\nx\r\nset l 0 0 1\r\nx\r\n")
-        check("the quota is in force", is_answered(clients[0], b"STORED\r\n" + NO_ROOM))
-        for client in first:
-            client.close()
-        check("those who stay go on", is_answered_again(clients[2]))
-        check("places of administrators alone are free", is_answered(ask(server, "admin")) and is_closed(server.connect("a", PATIENCE)))
-        clients[1].close()
-        check("and on", is_answered_again(clients[2]))
-        check("a tenant's place is free again", is_answered(ask(server, "a")))
-        for client in clients + later:
-            client.close()
-
-
 def check_admin_does_not_count():
     """`--connections` counts the connections of tenants, and the server ends when all have ended."""
     with Server(PROGRAM, [*ADMIN, "--connections", "2"], {"a": LARGE}) as server:
@@ -410,12 +209,6 @@ def check_admin_does_not_count():
         for _ in range(2):
             check("a tenant's client", answer(server, "a", b"version\r\nquit\r\n") == VERSION)
         check("the end after two", server.wait() == (0, b"done 3\n", b""))
-
-
-def ending_of(*words):
-    """How a run ends that doesn't serve."""
-    ended = subprocess.run([PROGRAM, *words], capture_output=True, timeout=PATIENCE)
-    return ended.returncode, ended.stdout, ended.stderr
 
 
 def check_admins_address():
@@ -439,7 +232,7 @@ def check_crowd():
     for name, another in ("ab", "ba"):
         with Server(PROGRAM, ["--workers", "1"], {"a": LARGE, "b": LARGE}) as server:
             check("a client before a crowd", is_answered(ask(server, name)))
-            with stopped(server):
+            with server.stopped():
                 crowd = [server.connect(name, PATIENCE) for _ in range(1_500)]
                 other = ask(server, another)
             check("another tenant's client after a crowd", is_answered(other))
@@ -452,15 +245,15 @@ def check_at_once():
     with Server(PROGRAM, ["--workers", "1"], {"a": LARGE, "b": LARGE}) as server:
         check("a first client", answer(server, "a", b"version\r\n") == VERSION)
         descriptors = settled_descriptors(server)
-        with stopped(server):
+        with server.stopped():
             clients = [ask(server, "ab"[number % 2]) for number in range(100)]
         check("clients that come at once", are_answered(clients))
-        with stopped(server):
+        with server.stopped():
             for client in clients:
                 client.sendall(b"version\r\n")
         check("clients that ask at once", are_answered(clients))
         check("idle clients, and it rests", rests(server, descriptors + 100))
-        with stopped(server):
+        with server.stopped():
             for number, client in enumerate(clients):
                 client.sendall(b"set k 0 0 5\r\nab") if number % 3 else client.sendall(b"version\r\n")
                 reset(client) if number % 2 else client.close()
@@ -475,11 +268,11 @@ def check_much_at_once():
         for client in clients:
             client.sendall(request * 10)
         check("clients that send much", are_answered(clients, b"STORED\r\n" * 10))
-        with stopped(server):
+        with server.stopped():
             for client in clients:
                 client.sendall(request * 3)
         check("clients that send much at once", are_answered(clients, b"STORED\r\n" * 3))
-        with stopped(server):
+        with server.stopped():
             for client in clients:
                 client.sendall(request * 3)
                 client.shutdown(socket.SHUT_WR)
@@ -494,7 +287,7 @@ def check_busy_worker():
         store_block(server)
         busy, others = server.connect("a", PATIENCE), [ask(server, "b") for _ in range(20)]
         check("clients before the worker is busy", are_answered(others))
-        with stopped(server):
+        with server.stopped():
             busy.sendall(get_of_many(BLOCKS))
             more = [ask(server, "b") for _ in range(300)]
         time.sleep(0.01)
@@ -556,7 +349,7 @@ def check_gone_arrivals():
     with Server(PROGRAM, ["--workers", "1"], {"a": LARGE}) as server:
         store_block(server)
         busy = server.connect("a", PATIENCE)
-        with stopped(server):
+        with server.stopped():
             busy.sendall(get_of_many(BLOCKS))
             for _ in range(3_000):
                 reset(server.connect("a", PATIENCE))
@@ -575,7 +368,7 @@ def check_gone_among_busy():
         check("other tenants' clients", are_answered(busy))
         first = ask(server, "a")
         check("a client before those that are gone", is_answered(first))
-        with stopped(server):
+        with server.stopped():
             # More than ten times as much as a worker takes of one connection before others have their turns.
             for client in busy:
                 client.sendall(b"get %s\r\n" % (b"x" * 200) * 2_000)
@@ -590,7 +383,7 @@ def check_gone_among_busy():
 def check_last():
     """As many clients come at once as are to be served, and one more."""
     with Server(PROGRAM, ["--connections", "20"], {"a": LARGE}) as server:
-        with stopped(server):
+        with server.stopped():
             clients = [ask(server, "a", b"version\r\nquit\r\n") for _ in range(21)]
         check("as many as are to be served", are_answered(clients[:20]))
         check("one more than are to be served", is_closed(clients[20]))
@@ -794,18 +587,25 @@ def check_failing_waits():
                 check(f"the end where wait {wait} fails at poll {poll}", ending == (1, b"", b"wfmc: input failed\n"), ending)
 
 
+def allow_connections():
+    """Thousands of connections are made here at a time, each of which needs a descriptor."""
+    _, most = resource.getrlimit(resource.RLIMIT_NOFILE)
+    resource.setrlimit(resource.RLIMIT_NOFILE, (min(most, 4096) if most != resource.RLIM_INFINITY else 4096, most))
+
+
 def main():
     repository.enter(PROGRAM)
+    allow_connections()
     check_golden_tests()
     check_tenants()
     check_others_unnoticed()
     check_too_many()
     check_admin()
-    check_admins_places()
+    network_places.check_admins_places(PROGRAM, check)
     check_admin_does_not_count()
     check_admins_address()
-    check_reserve()
-    check_passing_on()
+    network_places.check_reserve(PROGRAM, check)
+    network_places.check_passing_on(PROGRAM, check)
     check_crowd()
     check_at_once()
     check_much_at_once()

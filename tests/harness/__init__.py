@@ -5,6 +5,7 @@
 - `processes`: a started process, with its memory and processor time
 - `servers`: wfmc, memcached and a relay, each on free ports
 - `client`: connections
+- `answers`: clients that have asked, and whether they are answered
 - `measures`: how a measurement is printed, and how long a client waits
 - `preload`: libraries that refuse or count a program's allocations, or fail its waits
 """

@@ -91,6 +91,15 @@ class Process:
                 total += sum(int(line.split()[1]) for line in status if "ctxt_switches" in line)
         return total
 
+    @contextlib.contextmanager
+    def stopped(self):
+        """Stops it for a block; what clients do waits in the system, and arrives together when it goes on."""
+        os.kill(self.pid, signal.SIGSTOP)
+        try:
+            yield
+        finally:
+            os.kill(self.pid, signal.SIGCONT)
+
     def wait(self, seconds=SECONDS):
         """Its status, output and standard error, once it has ended by itself."""
         output, errors = self.process.communicate(timeout=seconds)

@@ -123,6 +123,12 @@ class Server(Process):
                 client.ask(b"get -\r\n", b"END\r\n")
 
 
+def ending_of(program, *words):
+    """How a run of wfmc ends that doesn't serve: its status, output and standard error."""
+    ended = subprocess.run([program, *words], capture_output=True, timeout=20)
+    return ended.returncode, ended.stdout, ended.stderr
+
+
 def wait_for(holds, what):
     """Waits until a condition holds, or ends the script."""
     until = time.monotonic() + SECONDS

@@ -18,6 +18,7 @@ TOO_LARGE = b"SERVER_ERROR object too large for cache\r\n"
 NO_ROOM = b"SERVER_ERROR out of memory storing object\r\n"
 LOG_FULL = b"SERVER_ERROR log full\r\n"
 STARVED = b"SERVER_ERROR out of memory\r\n"
+VERSION = b"VERSION 1.0.0\r\n"
 STORED, NOT_STORED, EXISTS, NOT_FOUND, DELETED, OK = (
     word + b"\r\n" for word in (b"STORED", b"NOT_STORED", b"EXISTS", b"NOT_FOUND", b"DELETED", b"OK")
 )
@@ -141,7 +142,7 @@ def line_request(stream, end, words):
     if name == b"flush_all":
         return flush_request(end, words)
     if name == b"version" and len(words) == 1:
-        return Request(end, reply=b"VERSION 1.0.0\r\n")
+        return Request(end, reply=VERSION)
     if name == b"quit" and len(words) == 1:
         return Request(end, is_quiet=True, ends_stream=True)
     return Request(end, reply=ERROR)

@@ -1,0 +1,164 @@
+"""The checks of network.py on places: who has one where a tenant takes all that it can, who one is kept for, and who is passed on to another worker.
+
+Thousands of connections are made at a time, each of which needs a descriptor here: network.py raises the limit.
+"""
+
+import contextlib
+import pathlib
+import resource
+import time
+
+from harness.answers import PATIENCE, answer, are_answered, ask, is_answered, is_answered_again, is_closed
+from harness.servers import ADMIN, Server, ending_of
+from oracle.protocol import NO_ROOM
+
+LARGE = (1000, 100_000_000)
+
+
+def waiting_room():
+    """How many connections may wait for a listener to accept them."""
+    return int(pathlib.Path("/proc/sys/net/core/somaxconn").read_text())
+
+
+def has_descriptors(count, what):
+    """Whether as many connections are allowed here, where this would be tried with them."""
+    if resource.getrlimit(resource.RLIMIT_NOFILE)[0] < count + 100:
+        print(f"{what}: not tried, since too few connections are allowed here")
+        return False
+    return True
+
+
+def held_places(server, tenant, most):
+    """Clients of a tenant who were answered, one after another, until one wasn't or there were as many."""
+    clients = []
+    for _ in range(most):
+        client = server.connect(tenant, PATIENCE)
+        with contextlib.suppress(ConnectionError):
+            client.sendall(b"version\r\n")
+        if not is_answered(client):
+            client.close()
+            break
+        clients.append(client)
+    return clients
+
+
+def check_admins_places(program, check):
+    """A tenant who holds all 1,024 places of the one worker locks no administrator out, of whom 16 have places, nor do these take a tenant's."""
+    if min(resource.getrlimit(resource.RLIMIT_NOFILE)[0], waiting_room()) < 1_100:
+        print("all places aren't tried: too few connections are allowed here")
+        return
+    with Server(program, [*ADMIN, "--workers", "1"], {"a": LARGE}) as server:
+        first = [ask(server, "admin") for _ in range(4)]
+        check("four administrators before", are_answered(first))
+        clients = [ask(server, "a") for _ in range(1_024)]
+        check("a tenant takes all places", are_answered(clients))
+        check("and no more", is_closed(server.connect("a", PATIENCE)))
+        later = [ask(server, "admin", b"limit a 1 100\r\n") for _ in range(12)]
+        check("an administrator has a place", are_answered(later, b"OK\r\n"))
+        check("16 have", is_closed(server.connect("admin", PATIENCE)))
+        clients[0].sendall(b"set k 0 0 1\r\nx\r\nset l 0 0 1\r\nx\r\n")
+        check("the quota is in force", is_answered(clients[0], b"STORED\r\n" + NO_ROOM))
+        for client in first:
+            client.close()
+        check("those who stay go on", is_answered_again(clients[2]))
+        check("places of administrators alone are free", is_answered(ask(server, "admin")) and is_closed(server.connect("a", PATIENCE)))
+        clients[1].close()
+        check("and on", is_answered_again(clients[2]))
+        check("a tenant's place is free again", is_answered(ask(server, "a")))
+        for client in clients + later:
+            client.close()
+
+
+def check_reserve(program, check):
+    """With --reserve a tenant who takes all that it can leaves each other its reserve, at each worker."""
+    if not has_descriptors(2_048, "reserves"):
+        return
+    with Server(program, [*ADMIN, "--workers", "1", "--reserve", "100"], {"a": LARGE, "b": LARGE, "c": LARGE}) as server:
+        first = held_places(server, "a", 1_024)
+        check("a tenant takes what isn't kept for others", len(first) == 824, len(first))
+        second = held_places(server, "b", 1_024)
+        check("another has its reserve, and no more", len(second) == 100, len(second))
+        check("an administrator has a place", is_answered(ask(server, "admin", b"limit a 1000 1000\r\n"), b"OK\r\n"))
+        first.pop().close()
+        check("those who stay go on", is_answered_again(first[0]))
+        second += held_places(server, "b", 2)
+        check("a place that nobody is owed is anybody's", len(second) == 101, len(second))
+        third = held_places(server, "c", 1_024)
+        check("the third has its reserve still", len(third) == 100, len(third))
+        for client in first + second + third:
+            client.close()
+    with Server(program, ["--workers", "2", "--reserve", "512"], {"a": LARGE, "b": LARGE}) as server:
+        first = held_places(server, "a", 1_100)
+        check("a tenant takes what isn't kept at two workers", len(first) == 1_024, len(first))
+        second = held_places(server, "b", 1_100)
+        check("another has its reserve at both", len(second) == 1_024, len(second))
+        for client in first + second:
+            client.close()
+    two = ("a=127.0.0.1:0,1,1", "b=127.0.0.1:0,1,1")
+    check("more is kept than there is", ending_of(program, "--reserve", "513", *two) == (2, b"", b"wfmc: bad settings\n"))
+    why = b"wfmc: --reserve 513: 2 times that is not from 0 to 1024\n"
+    check("why", ending_of(program, "--check", "--reserve", "513", *two) == (2, b"", why))
+    check("all is kept", ending_of(program, "--check", "--reserve", "512", *two) == (0, b"wfmc: the settings can be served\n", b""))
+    most = ending_of(program, "--check", "--reserve", str(2**64 - 1), *two)
+    check("far more", most == (2, b"", why.replace(b"513", b"%d" % (2**64 - 1))), most)
+
+
+def check_passing_on(program, check):
+    """A client whose worker has no place is served by another that has one; where none has, its connection is closed."""
+    if not has_descriptors(2_048, "passing on"):
+        return
+    check_both_taken(program, check)
+    check_passed_on_tenants(program, check)
+    check_last_passed_on(program, check)
+
+
+def check_both_taken(program, check):
+    """The places of both workers are taken; then all but one of the clients of one leave, and others come."""
+    with Server(program, ["--workers", "2"], {"a": LARGE}) as server:
+        clients = held_places(server, "a", 2_048)
+        check("two workers' places", len(clients) == 2_048, len(clients))
+        check("one more than both have", is_closed(server.connect("a", PATIENCE)))
+        # Clients were handed to the workers in turn: all but the first of the second worker's leave.
+        staying, leaving = clients[::2] + clients[1:2], clients[3::2]
+        for client in leaving:
+            client.close()
+        check("those who stay go on", is_answered_again(staying[-1]))
+        later = held_places(server, "a", 1_023)
+        check("the other worker takes those for which one has no place", len(later) == 1_023, len(later))
+        check("again one more than both have", is_closed(server.connect("a", PATIENCE)))
+        check("all are served", all(is_answered_again(client) for client in staying + later))
+        for client in staying + later:
+            client.close()
+
+
+def check_passed_on_tenants(program, check):
+    """Who is passed on is still a client of its own tenant."""
+    with Server(program, ["--workers", "2"], {"a": LARGE, "b": LARGE}) as server:
+        for tenant in "ab":
+            answer(server, tenant, b"set k 0 0 1\r\n%b\r\n" % tenant.encode())
+        clients = held_places(server, "a", 2_048)
+        staying, leaving = clients[::2] + clients[1:2], clients[3::2]
+        for client in leaving:
+            client.close()
+        check("the second worker has places again", is_answered_again(staying[-1]))
+        others = held_places(server, "b", 4)
+        for client in others:
+            client.sendall(b"get k\r\n")
+        said = [client.recv(64) for client in others]
+        check("who is passed on is served as its own tenant's", said == [b"VALUE k 0 1\r\nb\r\nEND\r\n"] * 4, said)
+        for client in staying + others:
+            client.close()
+
+
+def check_last_passed_on(program, check):
+    """The last that is to be served comes to a worker without a place, when the other may have ended: it is served or closed, and isn't left."""
+    with Server(program, ["--workers", "2", "--connections", "2049"], {"a": LARGE}) as server:
+        clients = held_places(server, "a", 2_048)
+        for client in clients[1::2]:
+            client.close()
+        started = time.monotonic()
+        held_places(server, "a", 1)
+        check("the last is served or closed soon", time.monotonic() - started < PATIENCE / 2)
+        for client in clients[::2]:
+            client.close()
+        check("the end after all", server.wait() == (0, b"done 0\n", b""))
