@@ -1,18 +1,24 @@
 #!/usr/bin/env python3
-"""Tests tests/harness itself, with stand-ins for the servers, in some seconds: a server that hangs before it is ready, one that never listens, and
-a script that is told to end. None of them leaves a process. The last line is 'N passed, M failed'.
+"""Tests tests/harness itself and what scripts make of it, with stand-ins for the servers, in some seconds: a server that hangs before it is ready,
+one that never listens, and a script that is told to end, none of which leaves a process; and clients of metrics.py whose connections are closed.
+The last line is 'N passed, M failed'.
 """
 
 import contextlib
 import os
 import pathlib
 import signal
+import socket
 import subprocess
 import sys
 import tempfile
+import threading
 import time
+import types
 
+import metrics
 from harness import servers
+from harness.client import Client
 from harness.results import Results
 
 PATIENCE = 10
@@ -123,10 +129,41 @@ def check_scripts():
     check_script("one that fails", "sys.stdin.missing", signal.SIGCONT, 1)
 
 
+@contextlib.contextmanager
+def closing(sent):
+    """The port of a listener that sends each client these bytes, and closes its connection."""
+    with socket.create_server(("127.0.0.1", 0)) as listener:
+
+        def accept():
+            with contextlib.suppress(OSError):
+                while True:
+                    with listener.accept()[0] as client:
+                        client.sendall(sent)
+
+        threading.Thread(target=accept, daemon=True).start()
+        yield listener.getsockname()[1]
+        listener.shutdown(socket.SHUT_RDWR)
+
+
+def check_closed():
+    """Scrapers and clients of metrics.py whose connections end too early."""
+    head = b"HTTP/1.1 200 OK\r\ncontent-length: 10\r\n\r\n"
+    for sent, wanted in ((head + b"123", "cut off"), (head[:-2], ""), (head + b"1234567890", "HTTP/1.1 200 OK")):
+        with closing(sent) as port:
+            status, _, body = metrics.Scraper(types.SimpleNamespace(ports={"metrics": port}), PATIENCE).reply()
+            check(f"a scrape's reply of {len(sent)} bytes", status == wanted and body == ("1234567890" if wanted.endswith("OK") else ""), (status, body))
+    with closing(b"") as port:
+        server = types.SimpleNamespace(ports={"metrics": port}, client=lambda _: Client(port, seconds=PATIENCE))
+        wrong, served, counts = metrics.at_full_speed(server, "ab", seconds=0.5)
+        check("threads that have died have counted nothing", served == {"a": 0, "b": 0} and counts == [0, 0, 0], (served, counts))
+        check("and that is wrong", sum(one.startswith(("BrokenPipeError", "ConnectionResetError")) for one in wrong) == 5, wrong[-5:])
+
+
 def main():
     check_servers()
     check_scripts()
     check_fork()
+    check_closed()
     results.finish()
 
 

@@ -9,6 +9,8 @@ held against promtool (Debian's package prometheus; PROMTOOL names another) wher
 Prints a line for each failure; the last line is 'N passed, M failed'.
 """
 
+import concurrent.futures
+import functools
 import os
 import re
 import resource
@@ -20,22 +22,22 @@ import sys
 import threading
 import time
 
-from harness import repository
+from harness import repository, servers
 from harness.client import connect
 from harness.results import Results
-from harness.servers import ADMIN, LARGE, Server
+from harness.servers import ADMIN, LARGE, METRICS, Server
 from oracle import protocol
 
 PROGRAM = sys.argv[1] if len(sys.argv) > 1 else repository.program("wfmc")
 PROMTOOL = os.environ.get("PROMTOOL") or shutil.which("promtool")
-RULES = os.path.join(os.path.dirname(os.path.dirname(os.path.abspath(__file__))), "etc", "prometheus-wfmc.rules.yml")
-METRICS = ("--metrics", "127.0.0.1:0")
+RULES = str(repository.ROOT / "etc/prometheus-wfmc.rules.yml")
 PATIENCE = 5
 PLACES = 500
 MOST = 16
 SAMPLE = re.compile(r'([a-z_]+)(?:\{([a-z_]+="[^"]*"(?:,[a-z_]+="[^"]*")*)\})? ([0-9.]+)')
 results = Results()
 check = results.check
+ending_of = functools.partial(servers.ending_of, PROGRAM)
 
 
 class Scraper:
@@ -48,22 +50,28 @@ class Scraper:
     def send(self, sent):
         self.socket.sendall(sent)
 
+    def has_more(self):
+        """Whether more comes, which is held then, before the connection ends."""
+        try:
+            piece = self.socket.recv(65536)
+        except ConnectionResetError:
+            piece = b""
+        self.held += piece
+        return piece != b""
+
     def reply(self):
-        """The status, the fields and the body of the next reply; an empty status where the connection ends first."""
+        """The status, the fields and the body of the next reply. Where the connection ends first, the status is empty; where it ends in the body,
+        it is `cut off`."""
         while b"\r\n\r\n" not in self.held:
-            try:
-                piece = self.socket.recv(65536)
-            except ConnectionResetError:
-                piece = b""
-            if not piece:
+            if not self.has_more():
                 return "", {}, ""
-            self.held += piece
         head, _, self.held = self.held.partition(b"\r\n\r\n")
         status, *lines = head.decode().split("\r\n")
         fields = dict(line.split(": ", 1) for line in lines)
-        while len(self.held) < int(fields["content-length"]):
-            self.held += self.socket.recv(65536)
         length = int(fields["content-length"])
+        while len(self.held) < length:
+            if not self.has_more():
+                return "cut off", {}, ""
         body, self.held = self.held[:length].decode(), self.held[length:]
         return status, fields, body
 
@@ -159,15 +167,20 @@ def check_numbers():
         for client in shops:
             client.close()
         awaits(server, "the connections that are left", {of("connections", "shop"): 0, of("connections", "b-2_x"): 1, of("connections", "third"): 2})
-        scraper = Scraper(server)
-        status, fields, body = scraper.get("/")
-        check("the page", status.endswith("200 OK") and fields["content-type"].startswith("text/html") and "<th>shop<td>19<td>100<td>228" in body, body)
-        check("another path", scraper.get("/favicon.ico")[0] == "HTTP/1.1 404 Not Found")
-        scraper.send(b"POST /metrics HTTP/1.1\r\nHost: wfmc\r\nContent-Length: 0\r\n\r\n")
-        check("another method", scraper.reply()[0] == "HTTP/1.1 405 Method Not Allowed")
-        text = scraper.get()[2]
-        check("each kind of commands and refusals", text.count("wfmc_tenant_commands_total{") == 3 * 12 and text.count("wfmc_tenant_refusals_total{") == 3 * 11)
-        check_by_promtool(text)
+        check_pages(server)
+
+
+def check_pages(server):
+    """What is answered at other paths, and by other methods; and a scrape of these three tenants as a whole."""
+    scraper = Scraper(server)
+    status, fields, body = scraper.get("/")
+    check("the page", status.endswith("200 OK") and fields["content-type"].startswith("text/html") and "<th>shop<td>19<td>100<td>228" in body, body)
+    check("another path", scraper.get("/favicon.ico")[0] == "HTTP/1.1 404 Not Found")
+    scraper.send(b"POST /metrics HTTP/1.1\r\nHost: wfmc\r\nContent-Length: 0\r\n\r\n")
+    check("another method", scraper.reply()[0] == "HTTP/1.1 405 Method Not Allowed")
+    text = scraper.get()[2]
+    check("each kind of commands and refusals", text.count("wfmc_tenant_commands_total{") == 3 * 12 and text.count("wfmc_tenant_refusals_total{") == 3 * 11)
+    check_by_promtool(text)
 
 
 def check_lag():
@@ -287,8 +300,8 @@ def check_starved():
         check("another tenant's client", clients[1].ask(b"get k\r\n", b"END\r\n") == b"VALUE k 0 1\r\nx\r\nEND\r\n")
 
 
-def works(server, tenant, stop, wrong, served):
-    """A client that checks each reply, and tells how many sets and gets it sent."""
+def works(server, tenant, stop, wrong):
+    """A client that checks each reply until it is stopped; how many sets and gets it sent."""
     with server.client(tenant) as client:
         number = 0
         while not stop.is_set():
@@ -298,37 +311,54 @@ def works(server, tenant, stop, wrong, served):
             wanted = f"VALUE k{number % 7} 0 6\r\n{number:06}\r\nEND\r\n".encode()
             if client.ask(f"get k{number % 7}\r\n".encode(), b"END\r\n") != wanted:
                 wrong.append(f"get {number}")
-    served[tenant] = number
+    return number
+
+
+def scrapes(server, stop, wrong):
+    """Scrapes until it is stopped; how often."""
+    scraper, count = Scraper(server), 0
+    while not stop.is_set():
+        status, _, body = scraper.get()
+        count += 1
+        used = re.search(r"^wfmc_log_used_places ([0-9]+)$", body, re.M)
+        if not status.endswith("200 OK") or not used or int(used[1]) > PLACES:
+            wrong.append(f"scrape {count}: {status} {used}")
+    return count
+
+
+def counted(thread, wrong):
+    """What a thread has counted; a fault that it ended by is wrong."""
+    try:
+        return thread.result()
+    except Exception as error:  # whatever it is, it is a failure
+        wrong.append(f"{type(error).__name__}: {error}")
+        return 0
+
+
+def at_full_speed(server, tenants, seconds=3):
+    """A client of each tenant, and three scrapers, for some seconds: what is wrong, and what each client and each scraper has counted."""
+    stop, wrong = threading.Event(), []
+    with concurrent.futures.ThreadPoolExecutor(len(tenants) + 3) as pool:
+        # Each client has a tenant of its own, and so knows what it is to be answered.
+        clients = {tenant: pool.submit(works, server, tenant, stop, wrong) for tenant in tenants}
+        scrapers = [pool.submit(scrapes, server, stop, wrong) for _ in range(3)]
+        try:
+            time.sleep(seconds)
+        finally:
+            stop.set()
+    served = {tenant: counted(client, wrong) for tenant, client in clients.items()}
+    counts = [counted(scraper, wrong) for scraper in scrapers]
+    return wrong, served, counts
 
 
 def check_full_speed():
     """Scrapes as fast as they come, over logs that follow one another, while clients of two tenants are answered as ever."""
     tenants = {"a": LARGE, "b": LARGE}
     with Server(PROGRAM, ("--workers", "2", "--places", str(PLACES), "--generations", "0", *METRICS), tenants) as server:
-        stop, wrong, counts, served = threading.Event(), [], [], {}
-
-        def scrapes():
-            scraper, count = Scraper(server), 0
-            while not stop.is_set():
-                status, _, body = scraper.get()
-                count += 1
-                used = re.search(r"^wfmc_log_used_places ([0-9]+)$", body, re.M)
-                if not status.endswith("200 OK") or not used or int(used[1]) > PLACES:
-                    wrong.append(f"scrape {count}: {status} {used}")
-            counts.append(count)
-
-        # Each client has a tenant of its own, and so knows what it is to be answered.
-        threads = [threading.Thread(target=works, args=(server, tenant, stop, wrong, served)) for tenant in tenants]
-        threads += [threading.Thread(target=scrapes) for _ in range(3)]
-        for thread in threads:
-            thread.start()
-        time.sleep(3)
-        stop.set()
-        for thread in threads:
-            thread.join()
+        wrong, served, counts = at_full_speed(server, tenants)
         check("replies and scrapes at full speed", not wrong, str(wrong[:5]))
         total = sum(served.values())
-        check("many of both", total > 200 and len(counts) == 3 and min(counts) > 20, f"{served} {counts}")
+        check("many of both", total > 200 and min(counts) > 20, f"{served} {counts}")
         wanted = {of("items", "a"): 7, of("items", "b"): 7, of("connections", "a"): 0}
         for tenant, number in served.items():
             wanted |= {f'wfmc_tenant_commands_total{{tenant="{tenant}",command="{kind}"}}': number for kind in ("set", "get")}
@@ -339,58 +369,74 @@ def check_full_speed():
         check("turn overs", shown["wfmc_turn_over_seconds_count"] == shown["wfmc_log_generation"] - 1 and shown["wfmc_turn_over_seconds_sum"] > 0)
 
 
+def closing_of(scraper):
+    """Whether a connection is closed on which nothing is sent, and after how many seconds."""
+    begun = time.monotonic()
+    try:
+        is_closed = scraper.ends()
+    except TimeoutError:
+        is_closed = False
+    return is_closed, time.monotonic() - begun
+
+
 def check_strangers():
     """Requests that are slow, huge or none, and more connections than there are places for."""
-    with Server(PROGRAM, METRICS, {"a": LARGE}) as server:
-        idle, begun = Scraper(server), time.monotonic()
-        slow = Scraper(server)
-        for byte in b"GET /metrics HTTP/1.1\r\nHost: wfmc\r\n\r\n":
-            slow.send(bytes([byte]))
-            time.sleep(0.01)
-        check("a slow request", slow.reply()[0] == "HTTP/1.1 200 OK")
-        for what, sent in (("a huge head", b"GET / HTTP/1.1\r\nX: " + b"x" * 100_000 + b"\r\n\r\n"), ("a huge line", b"GET /" + b"x" * 100_000)):
-            huge = Scraper(server)
-            try:
-                huge.send(sent)
-                status = huge.reply()[0]
-            except (ConnectionResetError, BrokenPipeError):
-                status = ""
-            check(what, status == "" or status.split()[1] in ("400", "414", "431"), status)
-        for what, sent in (("no request", b"\0\1\2\r\n\r\n"), ("memcached's words", b"get a\r\n\r\n"), ("a body", b"GET / HTTP/1.1\r\nHost: w\r\nContent-Length: 9\r\n\r\n123456789")):
-            wrong = Scraper(server)
-            wrong.send(sent)
-            status = wrong.reply()[0]
-            check(what, status.split()[1] in ("400", "413") and wrong.ends(), status)
-        half = Scraper(server)
-        half.send(b"GET /met")
-        half.socket.shutdown(socket.SHUT_WR)
-        half.close()
+    with Server(PROGRAM, METRICS, {"a": LARGE}) as server, concurrent.futures.ThreadPoolExecutor(1) as pool:
+        # In a thread of its own, so that the others don't count for the time.
+        idle = pool.submit(closing_of, Scraper(server))
+        check_odd_requests(server)
         with server.client("a") as client:
             check("a tenant's client beside them", client.line(b"set k 0 0 1\r\nx\r\n") == "STORED")
         awaits(server, "a scrape beside them", {of("items", "a"): 1})
-        idle.socket.settimeout(20)
-        check("one that does nothing is closed", idle.ends() and 8 < time.monotonic() - begun < 14, str(time.monotonic() - begun))
-        crowd = [Scraper(server) for _ in range(MOST)]
-        for scraper in crowd:
-            check("one of sixteen", scraper.get()[0] == "HTTP/1.1 200 OK")
-        late = Scraper(server, seconds=0.5)
-        late.send(b"GET /metrics HTTP/1.1\r\nHost: wfmc\r\n\r\n")
+        is_closed, seconds = idle.result()
+        check("one that does nothing is closed", is_closed and 8 < seconds < 14, str(seconds))
+        check_crowd(server)
+
+
+def check_odd_requests(server):
+    """Requests that are slow, huge or none, each over a connection of its own."""
+    slow = Scraper(server)
+    for byte in b"GET /metrics HTTP/1.1\r\nHost: wfmc\r\n\r\n":
+        slow.send(bytes([byte]))
+        time.sleep(0.01)
+    check("a slow request", slow.reply()[0] == "HTTP/1.1 200 OK")
+    for what, sent in (("a huge head", b"GET / HTTP/1.1\r\nX: " + b"x" * 100_000 + b"\r\n\r\n"), ("a huge line", b"GET /" + b"x" * 100_000)):
+        huge = Scraper(server)
         try:
-            answered = late.reply()[0]
-        except TimeoutError:
-            answered = "waits"
-        check("the seventeenth waits", answered == "waits", answered)
-        crowd[3].close()
-        late.socket.settimeout(5)
-        check("and has its turn", late.reply()[0] == "HTTP/1.1 200 OK")
-        with server.client("a") as client:
-            check("a tenant's client beside a crowd", client.ask(b"get k\r\n", b"END\r\n") == b"VALUE k 0 1\r\nx\r\nEND\r\n")
+            huge.send(sent)
+            status = huge.reply()[0]
+        except (ConnectionResetError, BrokenPipeError):
+            status = ""
+        check(what, status == "" or status.split()[1] in ("400", "414", "431"), status)
+    body = b"GET / HTTP/1.1\r\nHost: w\r\nContent-Length: 9\r\n\r\n123456789"
+    for what, sent in (("no request", b"\0\1\2\r\n\r\n"), ("memcached's words", b"get a\r\n\r\n"), ("a body", body)):
+        wrong = Scraper(server)
+        wrong.send(sent)
+        status = wrong.reply()[0]
+        check(what, status.split()[1] in ("400", "413") and wrong.ends(), status)
+    half = Scraper(server)
+    half.send(b"GET /met")
+    half.socket.shutdown(socket.SHUT_WR)
+    half.close()
 
 
-def ending_of(*words):
-    """How a run ends that doesn't serve."""
-    ended = subprocess.run([PROGRAM, *words], capture_output=True, timeout=20)
-    return ended.returncode, ended.stdout, ended.stderr
+def check_crowd(server):
+    """As many connections as there are places for, and one more; the tenant's item is there."""
+    crowd = [Scraper(server) for _ in range(MOST)]
+    for scraper in crowd:
+        check("one of sixteen", scraper.get()[0] == "HTTP/1.1 200 OK")
+    late = Scraper(server, seconds=0.5)
+    late.send(b"GET /metrics HTTP/1.1\r\nHost: wfmc\r\n\r\n")
+    try:
+        answered = late.reply()[0]
+    except TimeoutError:
+        answered = "waits"
+    check("the seventeenth waits", answered == "waits", answered)
+    crowd[3].close()
+    late.socket.settimeout(5)
+    check("and has its turn", late.reply()[0] == "HTTP/1.1 200 OK")
+    with server.client("a") as client:
+        check("a tenant's client beside a crowd", client.ask(b"get k\r\n", b"END\r\n") == b"VALUE k 0 1\r\nx\r\nEND\r\n")
 
 
 def check_words():
@@ -416,11 +462,17 @@ def check_words():
         check("the end, at once", server.wait() == (0, b"done 1\n", b"") and scraper.ends())
 
 
-check_words()
-check_numbers()
-check_lag()
-check_tallies()
-check_starved()
-check_full_speed()
-check_strangers()
-results.finish()
+def main():
+    repository.enter(PROGRAM)
+    check_words()
+    check_numbers()
+    check_lag()
+    check_tallies()
+    check_starved()
+    check_full_speed()
+    check_strangers()
+    results.finish()
+
+
+if __name__ == "__main__":
+    main()
