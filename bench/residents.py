@@ -59,6 +59,7 @@ def bytes_an_item(server, port, size):
 
 
 def main():
+    repository.enter(PROGRAM)
     repository.require("memcached")
     print_load("start")
     for size in (100, 1_000):

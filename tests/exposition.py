@@ -1,26 +1,41 @@
 #!/usr/bin/env python3
 """Holds what mc_scrape prints against an oracle that shares no code with it, against the grammar of
 Prometheus' text format, and against `promtool check metrics` where that is installed (Debian's
-package prometheus; PROMTOOL names another).
+package prometheus; PROMTOOL names another). The kit's logic that the metrics name has to be the one
+that `rt version` prints, and README.md names too.
 
 mc_scrape answers crates/mc_scrape/stdin with the metrics of an example. Without an argument the
 program is run as `make test` or tools/prove.sh built it; `--stored` reads crates/mc_scrape/stdout,
-and `--write` writes there what the oracle expects.
+and `--write` writes there what the oracle expects. Prints a line for each failure; the last line is
+'N passed, M failed'.
 """
 import os
+import pathlib
 import re
 import shutil
 import subprocess
 import sys
 
-ROOT = os.path.dirname(os.path.dirname(os.path.abspath(__file__)))
-CRATE = f"{ROOT}/crates/mc_scrape"
+from harness import repository
+from harness.results import Results
+
+CRATE = pathlib.Path("crates/mc_scrape")
+PROGRAM = repository.program("mc_scrape")
+SECONDS = 60
 COMMANDS = "get gets set add replace append prepend cas delete incr decr flush_all".split()
 REFUSALS = ("unknown_command bad_format bad_block no_expiry line_too_long too_large no_room "
             "not_a_number bad_delta log_full out_of_memory").split()
 TENANTS = [("shop", 1), ("b-2_x", 2)]
 WORKERS = [(0, 0, 13), (1, 42, 14)]
 LARGEST = 2 ** 64 - 1
+results = Results()
+check = results.check
+
+
+def logic():
+    """The kit's logic that the metrics name, as it is typed in the sources."""
+    source = pathlib.Path("crates/mc_metrics/src/metric.rt").read_text(encoding="utf-8")
+    return re.search(r'const LOGIC: &\[u8\] = b"([^"]*)";', source)[1]
 
 
 def metric(name, help_text, kind, samples):
@@ -72,7 +87,7 @@ def metrics():
                [([], "1.002030", "_sum"), ([], 2, "_count")]),
         plain("process_resident_memory_bytes", "Resident memory of the process in bytes.", LARGEST),
         metric("wfmc_build_info", "The version that runs, and the logic that it is proved in.", "gauge",
-               [([("version", "1.0.0"), ("logic", "dac8208d650f15bf")], 1)]),
+               [([("version", "1.0.0"), ("logic", logic())], 1)]),
     ])
 
 
@@ -119,61 +134,95 @@ NAME = r"[a-zA-Z_:][a-zA-Z0-9_:]*"
 SAMPLE = re.compile(rf'({NAME})(?:\{{((?:[a-zA-Z_][a-zA-Z0-9_]*="[^"\\\n]*"(?:,(?!\}}))?)*)\}})? ([0-9]+(?:\.[0-9]+)?)')
 
 
-def check_grammar(text):
-    """Each line is of the format; each metric has its head once, before its samples, and no sample twice."""
-    assert text.endswith("\n")
+def samples_of(text):
+    """The samples of a text, by name and labels; a `ValueError` where a line isn't of the format, a metric has its head twice or not before
+    its samples, or a sample comes twice."""
+    def want(holds, what):
+        if not holds:
+            raise ValueError(what)
+
+    want(text.endswith("\n"), "the last line has no end")
     seen, current, types = set(), None, {}
     for line in text.splitlines():
         head = re.fullmatch(rf"# (HELP|TYPE) ({NAME}) (.+)", line)
         if head:
             kind, current, rest = head.groups()
             if kind == "TYPE":
-                assert current not in types and rest in ("counter", "gauge", "summary"), line
+                want(current not in types and rest in ("counter", "gauge", "summary"), line)
                 types[current] = rest
             continue
         sample = SAMPLE.fullmatch(line)
-        assert sample, f"no sample: {line}"
+        want(sample, f"no sample: {line}")
         name = sample[1]
         base = re.sub(r"_(sum|count)$", "", name) if types.get(current) == "summary" else name
-        assert base == current and current in types, f"a sample of another metric: {line}"
-        assert (types[current] == "counter") == name.endswith("_total"), line
-        assert (name, sample[2]) not in seen, f"twice: {line}"
+        want(base == current and current in types, f"a sample of another metric: {line}")
+        want((types[current] == "counter") == name.endswith("_total"), line)
+        want((name, sample[2]) not in seen, f"twice: {line}")
         seen.add((name, sample[2]))
-    return len(seen)
+    return seen
 
 
-def promtool(text):
+def check_grammar(text):
+    try:
+        print(f"{len(samples_of(text))} samples")
+        wrong = ""
+    except ValueError as error:
+        wrong = str(error)
+    check("the grammar of the text format", not wrong, wrong)
+
+
+def check_by_promtool(text):
     tool = os.environ.get("PROMTOOL") or shutil.which("promtool")
     if not tool:
         print("promtool isn't installed, so it wasn't asked")
         return
-    ran = subprocess.run([tool, "check", "metrics"], input=text, capture_output=True, text=True)
-    assert ran.returncode == 0 and not ran.stdout and not ran.stderr, f"promtool: {ran.stdout}{ran.stderr}"
-    print("promtool check metrics: no complaint")
+    ran = subprocess.run([tool, "check", "metrics"], input=text, capture_output=True, text=True, timeout=SECONDS)
+    check("promtool check metrics", ran.returncode == 0 and not ran.stdout and not ran.stderr, (ran.stdout + ran.stderr).strip())
 
 
-def output(arguments):
-    if arguments == ["--stored"]:
-        with open(f"{CRATE}/stdout", "rb") as file:
-            return file.read()
-    with open(f"{CRATE}/stdin", "rb") as file:
-        ran = subprocess.run([f"{CRATE}/out/mc_scrape"], stdin=file, capture_output=True, timeout=60)
-    assert ran.returncode == 0, ran
+def check_logic():
+    """The kit that proves, the metrics and README.md name one logic."""
+    named = re.findall(r"\blogic ([0-9a-f]{16})\b", pathlib.Path("README.md").read_text(encoding="utf-8"))
+    check("README.md names the logic", named == [logic()], f"{named}, and the metrics {logic()}")
+    if not shutil.which("rt"):
+        print("rt isn't installed, so it isn't asked for its logic")
+        return
+    told = subprocess.run(["rt", "version"], capture_output=True, text=True, timeout=SECONDS).stdout
+    check("rt version prints the logic", told.split()[-1:] == [logic()], f"{told.strip()}, and the metrics {logic()}")
+
+
+def check_output(got):
+    """What is printed, byte for byte."""
+    want = expected()
+    at = next((i for i, (a, b) in enumerate(zip(got, want)) if a != b), min(len(got), len(want)))
+    before = max(0, at - 60)
+    check("the output", got == want, f"it differs at byte {at}: {got[before:at + 60]!r} instead of {want[before:at + 60]!r}")
+    return got == want
+
+
+def output():
+    with open(CRATE / "stdin", "rb") as file:
+        ran = subprocess.run([PROGRAM], stdin=file, capture_output=True, timeout=SECONDS)
+    check("mc_scrape ends well", ran.returncode == 0, ran)
     return ran.stdout
 
 
 def main():
-    if sys.argv[1:] == ["--write"]:
-        with open(f"{CRATE}/stdout", "wb") as file:
-            file.write(expected())
+    words = sys.argv[1:]
+    if words not in ([], ["--stored"], ["--write"]):
+        sys.exit("exposition.py [--stored | --write]")
+    repository.enter(*([] if words else [PROGRAM]))
+    if words == ["--write"]:
+        (CRATE / "stdout").write_bytes(expected())
         return
-    got, want = output(sys.argv[1:]), expected()
-    if got != want:
-        at = next((i for i, (a, b) in enumerate(zip(got, want)) if a != b), min(len(got), len(want)))
-        sys.exit(f"differs at byte {at}: {got[at - 60:at + 60]!r} instead of {want[at - 60:at + 60]!r}")
-    text = got.split(b"\r\n\r\n", 1)[1][:len(metrics())].decode()
-    print(f"{check_grammar(text)} samples")
-    promtool(text)
+    got = (CRATE / "stdout").read_bytes() if words else output()
+    if check_output(got):
+        text = got.split(b"\r\n\r\n", 1)[1][:len(metrics())].decode()
+        check_grammar(text)
+        check_by_promtool(text)
+    check_logic()
+    results.finish()
 
 
-main()
+if __name__ == "__main__":
+    main()
