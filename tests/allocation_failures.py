@@ -3,18 +3,22 @@
 calls, cells and workers.
 
 A program is run over and over, each allocation refused in turn, alone and with all later ones (tests/refuse.c, which needs gcc); --every N
-refuses one allocation in N. How a run may end is said at the `judge` of its case. A hang, a signal or a wrong byte is a failure. Prints how the runs
-ended, and a line for each failure; the last line is 'N passed, M failed'.
+refuses one allocation in N, but in calls, cells and workers, which have few. How a run may end is said at the `judge` of its case. A hang, a signal
+or a wrong byte is a failure. Prints how the runs ended, and a line for each failure; the last line is 'N passed, M failed'.
 """
 
 import argparse
 import collections
 import concurrent.futures
+import contextlib
 import dataclasses
 import functools
+import os
 import re
+import select
 import subprocess
 import tempfile
+import time
 
 from harness import preload, repository
 from harness.client import Exchange, connect, exchange
@@ -28,6 +32,8 @@ from oracle.table import Table
 
 SECONDS = 60
 MODES = {"one": {}, "all from one on": {"ONWARD": "1"}}
+# The end of a run that has hung, which no `judge` lets pass.
+HUNG = (None, b"", b"it didn't end")
 results = Results()
 
 
@@ -36,13 +42,20 @@ def fed(words, stream, environment):
     with tempfile.TemporaryFile() as file:
         file.write(stream)
         file.seek(0)
-        ended = subprocess.run(words, stdin=file, capture_output=True, env=environment, timeout=SECONDS)
+        try:
+            ended = subprocess.run(words, stdin=file, capture_output=True, env=environment, timeout=SECONDS)
+        except subprocess.TimeoutExpired:
+            return HUNG
     return ended.returncode, ended.stdout, ended.stderr
 
 
 def counts_of(errors):
-    """How many allocations there were, and the number of the first large one, as the library prints them."""
-    return [int(count) for count in errors.split()[-2:]]
+    """How many allocations there were, and the number of the first large one, as the library prints them. Without them none can be refused."""
+    counts = errors.split()[-2:]
+    if len(counts) < 2 or not all(count.isdigit() for count in counts):
+        results.check("a run in which nothing is refused", False, f"it doesn't count its allocations: {errors[-200:]!r}")
+        results.finish()
+    return [int(count) for count in counts]
 
 
 def sweep(what, run, judge, environment, numbers, threads=4):
@@ -50,7 +63,9 @@ def sweep(what, run, judge, environment, numbers, threads=4):
 
     `judge` returns how a run ended, in a few words, and whether it may end so.
     """
-    with concurrent.futures.ThreadPoolExecutor(threads) as pool:
+    with concurrent.futures.ThreadPoolExecutor(threads) as pool, contextlib.ExitStack() as ending:
+        # Where this is ended, what hasn't begun isn't waited for.
+        ending.callback(pool.shutdown, cancel_futures=True)
         for mode, more in MODES.items():
             runs = {number: pool.submit(run, {**environment, "REFUSED": str(number), **more}) for number in numbers}
             ends = {}
@@ -107,20 +122,36 @@ def at_once(environment):
     return fed(STDIN, b"".join(REQUESTS), environment)
 
 
-def by_turns(environment):
+def next_of(pipe, count, until):
+    """The next bytes that a program writes, as many as these or fewer, where it ends; a `TimeoutError` where they don't come until then."""
+    received, poll = b"", select.poll()
+    poll.register(pipe)
+    while len(received) < count:
+        if not poll.poll(1000 * max(0.0, until - time.monotonic())):
+            raise TimeoutError
+        if not (piece := os.read(pipe.fileno(), count - len(received))):
+            break
+        received += piece
+    return received
+
+
+def by_turns(environment, words=STDIN):
     """Each request after the reply to the one before."""
-    received, pipe = b"", subprocess.PIPE
-    with subprocess.Popen(STDIN, stdin=pipe, stdout=pipe, stderr=pipe, env=environment, bufsize=0) as program:
-        for request, wanted in zip(REQUESTS, REPLIES[1:]):
-            try:
-                program.stdin.write(request)
-            except BrokenPipeError:
-                break
-            while len(received) < len(wanted) and (piece := program.stdout.read(len(wanted) - len(received))):
-                received += piece
-            if received != wanted:
-                break
-        output, errors = program.communicate(timeout=SECONDS)
+    received, pipe, until = b"", subprocess.PIPE, time.monotonic() + SECONDS
+    with subprocess.Popen(words, stdin=pipe, stdout=pipe, stderr=pipe, env=environment, bufsize=0) as program:
+        try:
+            for request, wanted in zip(REQUESTS, REPLIES[1:]):
+                try:
+                    program.stdin.write(request)
+                except BrokenPipeError:
+                    break
+                received += next_of(program.stdout, len(wanted) - len(received), until)
+                if received != wanted:
+                    break
+            output, errors = program.communicate(timeout=SECONDS)
+        except (TimeoutError, subprocess.TimeoutExpired):
+            program.kill()
+            return HUNG
     return program.returncode, received + output, errors
 
 
@@ -213,7 +244,7 @@ def judge_calls(word, ended, mode):
 
 
 def try_calls(environment, _every):
-    """Submits, a meeting of two workers, and a log that is followed by another; each allocation is tried, since there are few."""
+    """Submits, a meeting of two workers, and a log that is followed by another."""
     for word in TELLING:
 
         def run(environment, word=word):
@@ -360,17 +391,17 @@ def judge_client(number, received, ending):
 def serve_clients(environment, options=OPTIONS, ask=client, judge=judge_client):
     """Two workers serve clients of two tenants at once, one connection each, until as many as --connections says have come and gone. Returns how
     wfmc ended, and how each of its clients was served; the last client comes when the others have left."""
-    with Server(WFMC, options, {"a": QUOTAS, "b": QUOTAS}, environment=environment) as server:
-        served = []
-        if len(server.ports) == 2:
-            with concurrent.futures.ThreadPoolExecutor(CLIENTS) as pool:
-                answers = list(pool.map(lambda number: ask(server.ports["ab"[number % 2]], number), range(CLIENTS)))
-            answers.append(ask(server.ports["a"], CLIENTS))
-            served = [judge(number, *answer) for number, answer in enumerate(answers)]
-        try:
+    served = []
+    try:
+        with Server(WFMC, options, {"a": QUOTAS, "b": QUOTAS}, environment=environment) as server:
+            if len(server.ports) == 2:
+                with concurrent.futures.ThreadPoolExecutor(CLIENTS) as pool:
+                    answers = list(pool.map(lambda number: ask(server.ports["ab"[number % 2]], number), range(CLIENTS)))
+                answers.append(ask(server.ports["a"], CLIENTS))
+                served = [judge(number, *answer) for number, answer in enumerate(answers)]
             return server.wait(SECONDS), served
-        except subprocess.TimeoutExpired:
-            return (None, b"", b"it didn't end"), served
+    except (TimeoutError, subprocess.TimeoutExpired):
+        return HUNG, served
 
 
 def judge_wfmc(ended, mode):
@@ -488,7 +519,10 @@ WORKERS = Tests(
 def ends_of(tests, refused):
     """How each test ended where the allocation of this number was refused."""
     words = ["rt", "try", "--test", "--fail-alloc", str(refused), "--", tests.module]
-    ran = subprocess.run(words, cwd=tests.crate, capture_output=True, text=True, timeout=600)
+    try:
+        ran = subprocess.run(words, cwd=tests.crate, capture_output=True, text=True, timeout=600)
+    except subprocess.TimeoutExpired:
+        return dict.fromkeys(tests.asks, "it didn't end")
     ends = {}
     for part in re.split(r"^test (?=\S+ \.\.\. )", ran.stdout + ran.stderr, flags=re.MULTILINE)[1:]:
         name = part.split()[0]
@@ -523,6 +557,8 @@ def try_workers(_environment, _every):
     try_tests(WORKERS)
 
 
+# Of these each allocation is tried, since there are few.
+WHOLE = ("calls", "cells", "workers")
 # Each case, and the program that it runs, if it is one that was built.
 CASES = {
     "mc_stdin": (try_stdin, "mc_stdin"),
@@ -544,6 +580,8 @@ def main():
     cases = asked.cases or list(CASES)
     if unknown := set(cases) - set(CASES):
         parser.error(f"no case {unknown.pop()}")
+    if asked.every < 1 or asked.every > 1 and set(asked.cases) & set(WHOLE):
+        parser.error("--every takes a number from 1 on, and isn't for " + ", ".join(WHOLE))
     repository.enter(*(repository.program(program) for _, program in map(CASES.get, cases) if program))
     with preload.library(preload.REFUSE) as environment:
         for case in cases:
@@ -551,4 +589,5 @@ def main():
     results.finish()
 
 
-main()
+if __name__ == "__main__":
+    main()

@@ -1,13 +1,14 @@
 #!/usr/bin/env python3
-"""Counts the reachable states of a small core, apart from the core's code and definitions.
+"""Counts the reachable states of a small core, apart from the core's code and definitions: core_states.py [WORKERS PLACES].
+
+Without words it counts those of two workers and three places, in about a second, and holds the number against the constant `STATES` of
+crates/mc_replica_tests/src/states.rt; the last line is 'N passed, M failed' then. With words it prints the number alone.
 
 On purpose it uses nothing of oracle/core.py: the number has to come from a second, shorter formulation of the transitions.
 
 A state is what each worker shows (phase, places learned and replayed, mark, proposals, commands announced), how many places
 were decided when it announced its latest command, how many commands the worker it has looked at had announced, and the decided
-places. The test `every_state_of_a_small_core_is_sound` of mc_replica_tests has to find the same number.
-
-Usage: tests/core_states.py [WORKERS PLACES]. Without these words it takes those of that test, and the last line is 'N passed, M failed'.
+places. The test `every_state_of_a_small_core_is_sound` of mc_replica_tests finds the same number.
 """
 
 import re
@@ -17,6 +18,8 @@ from collections import deque
 from harness import repository
 from harness.results import Results
 
+SOURCE = repository.ROOT / "crates/mc_replica_tests/src/states.rt"
+WORKERS, PLACES = 2, 3
 IDLE, PENDING, LOOKED, STOPPED = range(4)
 
 
@@ -65,19 +68,22 @@ def states(count, places):
     return len(seen)
 
 
-def wanted():
-    """How many states that test looks for."""
-    text = (repository.ROOT / "crates/mc_replica_tests/src/states.rt").read_text(encoding="utf-8")
-    return int(re.search(r"^const STATES: usize = ([\d_]+);$", text, re.MULTILINE)[1])
+def constant(name):
+    """A number that is typed in the sources of the test."""
+    return int(re.search(rf"^const {name}: \w+ = ([0-9_]+);", SOURCE.read_text(encoding="utf-8"), re.MULTILINE)[1])
 
 
 def main():
-    workers, places = (int(word) for word in sys.argv[1:]) if sys.argv[1:] else (2, 3)
+    words = sys.argv[1:]
+    if len(words) not in (0, 2) or not all(word.isdecimal() and int(word) for word in words):
+        sys.exit("usage: core_states.py [WORKERS PLACES]")
+    workers, places = map(int, words or (WORKERS, PLACES))
     found = states(workers, places)
     print(f"{workers} workers and {places} places: {found} states")
-    if not sys.argv[1:]:
+    if not words:
         results = Results()
-        results.check("the states that the test of mc_replica_tests looks for", found == wanted(), wanted())
+        wanted = constant("STATES") if constant("PLACES") == PLACES else "another number of places"
+        results.check("the states of states.rt", found == wanted, f"{found} are found, and it has {wanted}")
         results.finish()
 
 

@@ -210,7 +210,7 @@ def output():
 def main():
     words = sys.argv[1:]
     if words not in ([], ["--stored"], ["--write"]):
-        sys.exit("exposition.py [--stored | --write]")
+        sys.exit("usage: exposition.py [--stored | --write]")
     repository.enter(*([] if words else [PROGRAM]))
     if words == ["--write"]:
         (CRATE / "stdout").write_bytes(expected())

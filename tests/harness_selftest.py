@@ -1,7 +1,7 @@
 #!/usr/bin/env python3
 """Tests tests/harness itself and what scripts make of it, with stand-ins for the servers, in some seconds: a server that hangs before it is ready,
-one that never listens, and a script that is told to end, none of which leaves a process; and clients of metrics.py whose connections are closed.
-The last line is 'N passed, M failed'.
+one that never listens, and a script that is told to end, none of which leaves a process; clients of metrics.py whose connections are closed; and
+programs that hang below allocation_failures.py. The last line is 'N passed, M failed'.
 """
 
 import contextlib
@@ -16,6 +16,7 @@ import threading
 import time
 import types
 
+import allocation_failures
 import metrics
 from harness import servers
 from harness.client import Client
@@ -159,11 +160,29 @@ def check_closed():
         check("and that is wrong", sum(one.startswith(("BrokenPipeError", "ConnectionResetError")) for one in wrong) == 5, wrong[-5:])
 
 
+def check_hangs():
+    """Programs that hang, which have a second here, are failures of a sweep, and don't end it."""
+    allocation_failures.SECONDS = servers.SECONDS = 1
+    nothing, late = "exec sleep 100", "cat >/dev/null; echo late; echo 1 2 >&2"
+    with stand_in("mc_stdin", nothing) as program:
+        check("a stream that hangs", allocation_failures.fed([program], b"", None) == allocation_failures.HUNG)
+        check("a client that hangs", allocation_failures.by_turns(None, [program]) == allocation_failures.HUNG)
+    with stand_in("mc_stdin", late) as program:
+        check("a stream that is answered at its end", allocation_failures.fed([program], b"x", None) == (0, b"late\n", b"1 2\n"))
+        check("a client that is answered at its end", allocation_failures.by_turns(None, [program]) == allocation_failures.HUNG)
+    judges = allocation_failures.judge_stdin, lambda ended, mode: allocation_failures.judge_wfmc((ended, []), mode)
+    check("no judge lets it pass", all(judge(allocation_failures.HUNG, "one")[1] is False for judge in judges))
+    with stand_in("wfmc", nothing) as program:
+        allocation_failures.WFMC = str(program)
+        check("a server that hangs", allocation_failures.serve_clients(None) == (allocation_failures.HUNG, []))
+
+
 def main():
     check_servers()
     check_scripts()
     check_fork()
     check_closed()
+    check_hangs()
     results.finish()
 
 
