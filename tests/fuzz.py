@@ -357,7 +357,7 @@ def attempt(call, words):
 
 def load(server, seed):
     """A load that comes again, of requests that need no place: the log is full."""
-    for call in (storm, slow_writer, solo_of_refusals, flood_of_gets):
+    for call in (storm, slow_writer, solo_of_refusals, unread_replies):
         attempt(call, (server.ports["a"], seed))
 
 
@@ -367,8 +367,8 @@ def solo_of_refusals(port, seed):
         exchange(port, pieces(chance, mutated(chance, StreamGenerator(chance).stream(100))))
 
 
-def flood_of_gets(port, _seed):
-    """A reply of 30 MB, which isn't read."""
+def unread_replies(port, _seed):
+    """100,000 replies, of 1.5 MB together, of which one byte is read."""
     client = connect(port)
     client.sendall(b"version\r\n" * 100_000)
     client.recv(1)
@@ -380,10 +380,11 @@ def check_flat(program):
     with Server(program, ["--workers", "2", "--places", "2000"], {"a": LARGE}) as server:
         base = at_rest(server, 2)
         exchange(server.ports["a"], [b"get a\r\n" * 2_001])
-        sizes = []
+        sizes, wrong = [], None
         for turn in range(6):
             load(server, turn % 2)
-            wrong = settled(server, base)
+            found = settled(server, base)
+            wrong = wrong or found
             sizes.append(server.resident() >> 10)
         grown = sizes[5] - sizes[1]
         print(f"memory under a load that comes again: {', '.join(map(str, sizes))} KB", flush=True)
@@ -398,12 +399,13 @@ def check_flat_over_logs(program, log_bytes):
         asked = b"set k%d 0 0 1000\r\n%s\r\nget k%d\r\n"
         count = 10_000 if log_bytes is None else 2_000
         stream = b"".join(asked % (number % 200, b"%04d" % number * 250, number % 100) for number in range(count))
-        sizes = []
+        sizes, wrong = [], None
         for _ in range(6):
             received, ending = exchange(server.ports["a"], [stream])
             all_stored = ending == "end" and received.count(protocol.STORED) == count
             yield "a load over many logs", None if all_stored else f"{ending}, {received[-100:]!r}"
-            wrong = settled(server, base)
+            found = settled(server, base)
+            wrong = wrong or found
             sizes.append(server.resident() >> 10)
         grown = sizes[5] - sizes[1]
         print(f"memory under a load over many logs that comes again: {', '.join(map(str, sizes))} KB", flush=True)
@@ -492,24 +494,31 @@ def check_dead_arrivals(program):
 
 def rush(port):
     """Connects and resets without end, and waits for none of it, until nobody listens."""
-    until, waiting = time.monotonic() + 3 * LATE, []
+    until, waiting, begun = time.monotonic() + 3 * LATE, [], 0
     while time.monotonic() < until:
         client = socket.socket()
         client.setblocking(False)
-        if client.connect_ex(("127.0.0.1", port)) == errno.ECONNREFUSED:
-            break
+        client.connect_ex(("127.0.0.1", port))
         waiting.append(client)
         if len(waiting) > 100:
+            # Since it didn't wait, this tells only now whether it was refused.
+            if waiting[0].getsockopt(socket.SOL_SOCKET, socket.SO_ERROR) == errno.ECONNREFUSED:
+                break
             reset(waiting.pop(0))
+            begun += 1
+    return [("those that connect", None if begun > 100 else f"{begun} connections in all")]
 
 
 def check_rush(program, pool):
     """Next to a tenant whose clients connect and go without end another tenant's new clients are answered."""
     with Server(program, ["--workers", "2"], {"a": LARGE, "b": LARGE}) as server:
-        for _ in range(3):
-            pool.submit(rush, server.ports["a"])
+        rushes = [pool.submit(attempt, rush, (server.ports["a"],)) for _ in range(3)]
         time.sleep(0.5)
         found, longest = attempt(steady, (server.ports["b"], 0))
+        ended = sum(one.done() for one in rushes)
+    found.append(("they connect until nobody listens", f"{ended} of 3 had ended before" if ended else None))
+    for one in rushes:
+        found += one.result()[0]
     if longest is not None:
         print(f"next to connects without end another tenant's clients waited {longest * 1000:.0f} ms at most", flush=True)
     yield from ((f"next to connects without end: {what}", wrong) for what, wrong in found)
@@ -670,4 +679,5 @@ def main():
     results.finish()
 
 
-main()
+if __name__ == "__main__":
+    main()
