@@ -36,6 +36,7 @@ sys.path.insert(0, str(pathlib.Path(__file__).parents[1] / "tests"))
 from harness import repository
 from harness.measures import figures_of, gathered, print_figure, print_load, print_spread
 from harness.servers import LARGE, Memcached, Server
+from wfmc import build_load
 
 MEBIBYTE = 1 << 20
 MOST_PLACES = 1_048_576
@@ -300,10 +301,8 @@ def main():
     repository.enter(asked.program)
     repository.require("gcc")
     with tempfile.TemporaryDirectory() as folder:
-        loader = f"{folder}/load"
-        subprocess.run(["gcc", "-O2", "-o", loader, "bench/load.c"], check=True)
+        bench = Bench(asked, build_load(folder))
         print_load("start")
-        bench = Bench(asked, loader)
         for name in asked.groups or GROUPS:
             GROUPS[name](bench)
         print_load("end")

@@ -20,6 +20,7 @@ sys.path.insert(0, str(pathlib.Path(__file__).parents[1] / "tests"))
 from harness import repository
 from harness.measures import figures_of, gathered, print_load, print_spread
 from harness.servers import LARGE, Memcached, Server, preloading
+from wfmc import build_load
 
 PROGRAM = repository.program("wfmc")
 SHAPES = ((50, 1), (8, 32))  # connections, requests that each sends at once
@@ -89,8 +90,7 @@ def main():
     repository.enter(PROGRAM)
     repository.require("memcached", "gcc")
     with tempfile.TemporaryDirectory() as folder:
-        program = f"{folder}/load"
-        subprocess.run(["gcc", "-O2", "-o", program, "bench/load.c"], check=True)
+        program = build_load(folder)
         print_load("start")
         for name, options, shape, size in rows():
             if words.rows not in name:

@@ -18,6 +18,7 @@ import subprocess
 import tempfile
 
 from harness import repository
+from harness.repository import kit
 from harness.results import Results
 from oracle.protocol import requests
 
@@ -29,11 +30,6 @@ BUILT = pathlib.Path(os.environ.get("XDG_CACHE_HOME") or pathlib.Path.home() / "
 INSTRUMENTED = "-fsanitize-coverage=inline-8bit-counters,pc-table,trace-cmp"
 MOST_BYTES = 160
 results = Results()
-
-
-def kit():
-    """The kit's folder."""
-    return pathlib.Path(shutil.which("rt")).resolve().parents[1]
 
 
 def instrumenting_kit(folder):

@@ -13,14 +13,13 @@ import re
 import sys
 from collections import defaultdict
 
-from specifications import CRATES, Definitions, ROOT
+from specifications import CRATES, Definitions, ROOT, listed
 
 IMPORT = re.compile(r"\bRattle\.(\w+)\.(specs|proofs)\.(\w+)")
 CALL = re.compile(r"\b(\w+)::")
 CITED = re.compile(r"\bRattle\.(\w+)\.")
 # These list only crates whose code they call, and crates of lemmas.
 CALLS_ALL = ("mc_conn", "mc_connections", "mc_net", "mc_server")
-LISTED = re.compile(r"^(\w+)[^#\n:]*:(.*)$", re.MULTILINE)
 
 
 def sources(*kinds):
@@ -29,11 +28,6 @@ def sources(*kinds):
         crate, *inside = file.relative_to(CRATES).parts
         if file.suffix in (".rt", ".antt") and inside and inside[0] in kinds:
             yield crate, file
-
-
-def listed():
-    """The libraries that crates.txt gives each crate, those of the kit too."""
-    return {crate: libraries.split() for crate, libraries in LISTED.findall((ROOT / "crates.txt").read_text(encoding="utf-8"))}
 
 
 def names_used_twice():

@@ -9,7 +9,6 @@ refused if a goal of its own function is. What changes anything else, and what i
 whole crate. The last lines name the mutants that weren't refused, and then 'N passed, M failed'.
 """
 
-import functools
 import os
 import re
 import shutil
@@ -21,6 +20,11 @@ from concurrent.futures import ThreadPoolExecutor
 from dataclasses import dataclass, field
 from pathlib import Path
 
+from specifications import listed
+
+sys.path.insert(0, str(Path(__file__).resolve().parents[1] / "tests"))
+from harness.repository import kit
+
 TOOLS = Path(__file__).resolve().parent
 ROOT = Path(os.environ.get("REPOSITORY", TOOLS.parent)).resolve()
 CRATES = ROOT / "crates"
@@ -29,7 +33,6 @@ PARTS = ("src", "specs", "proofs")
 # How many mutants are tried at once: with more, a crate's checks would be fewer, and one wrong edit would cost more of them a second try.
 AT_ONCE = 12
 
-LISTED = re.compile(r"^(\w+)[^#\n:]*:(.*)$", re.MULTILINE)
 FUNCTION = re.compile(r"^( *)(?:pub(?:\([\w:]+\))? )?(?:const )?fn (\w+)")
 IMPL = re.compile(r"^( *)impl(?:<.*?>)? (?:(\w[\w:]*)(?:<.*>)? for )?(&(?:'\w+ )?(?:mut )?)?(\w[\w:]*)")
 TRAIT = re.compile(r"^( *)(?:pub(?:\([\w:]+\))? )?trait (\w+)")
@@ -256,13 +259,6 @@ def refusal(function, said):
     return None
 
 
-@functools.cache
-def kit():
-    """The folder of Rattle's kit."""
-    page = subprocess.run(["rt", "doc"], check=True, capture_output=True, text=True).stdout.strip()
-    return Path(page).parent
-
-
 def below(crate, libraries):
     """The libraries of this repository below a crate."""
     own = {it for it in libraries[crate] if it in libraries}
@@ -301,7 +297,7 @@ def wanted_of(words):
 
 
 def main():
-    libraries = {crate: named.split() for crate, named in LISTED.findall((ROOT / "crates.txt").read_text(encoding="utf-8"))}
+    libraries = listed(ROOT)
     wanted = wanted_of(sys.argv[1:])
     if wanted is None:
         return 2

@@ -6,8 +6,9 @@ is a line that follows from others: where a stands on b and b on c, none is draw
 that they can be read on a light page and on a dark one.
 """
 
-import pathlib
 import sys
+
+from specifications import ROOT, listed
 
 # What each box says below its name.
 SAYS = {
@@ -51,13 +52,9 @@ KINDS = {"program": ("#ffe3a8", "#8a6100"), "lemmas": ("#e6e6e6", "#5a5a5a"), "m
 WIDTH, HEIGHT, GAP, STEP, EDGE = 178, 46, 26, 84, 14
 
 
-def read_crates(text):
+def read_crates():
     """The crates that are drawn, with those of them that each stands on."""
-    crates = {}
-    for line in text.splitlines():
-        if line.strip() and not line.lstrip().startswith("#"):
-            name, _, libraries = line.partition(":")
-            crates[name.split()[0]] = libraries.split()
+    crates = listed()
     drawn = {name for name in crates if not name.endswith("_tests") and name not in ("benches", "refusals", "mc_scrape")}
     return {name: [it for it in crates[name] if it in drawn] for name in crates if name in drawn}
 
@@ -203,9 +200,8 @@ def picture(crates):
 
 
 def main():
-    root = pathlib.Path(__file__).parent.parent
-    drawn = picture(read_crates((root / "crates.txt").read_text()))
-    house = root / "docs/house.svg"
+    drawn = picture(read_crates())
+    house = ROOT / "docs/house.svg"
     if sys.argv[1:] == ["--check"]:
         if not house.exists() or house.read_text() != drawn:
             sys.exit("docs/house.svg isn't that of crates.txt: tools/picture.py draws it")

@@ -10,6 +10,7 @@ from dataclasses import dataclass, field
 
 ROOT = pathlib.Path(__file__).resolve().parent.parent
 CRATES = ROOT / "crates"
+LISTED = re.compile(r"^(\w+)[^#\n:]*:(.*)$", re.MULTILINE)
 IMPORT = re.compile(r"^ *(?:pub |ghost )?use Rattle\.(\w+)\.specs\.([\w.]+?)\.\{([^}]*)\}", re.MULTILINE)
 DEFINITION = re.compile(r"^(?:  )?(?:(?:abbrev|unfoldable) pub|(?:pub )?(?:record|data)) (\w+)|^(?:pub )?(\w+) *(?:\{[^}]*\} *)?:")
 WORD = re.compile(r"\w+")
@@ -22,10 +23,14 @@ PROOF = re.compile(r"laws|total|matches_\w+|continues_\w+")
 CLAUSE = re.compile(r"^ *(requires|ensures) (?:(\w+) )?\{")
 
 
+def listed(root=ROOT):
+    """The crates of crates.txt, in its order, and the libraries that it gives each, those of the kit too."""
+    return {crate: names.split() for crate, names in LISTED.findall((root / "crates.txt").read_text(encoding="utf-8"))}
+
+
 def libraries():
     """The crates of the product that others call, in the order of crates.txt."""
-    names = re.findall(r"^(\w+)[^#\n]*:", (ROOT / "crates.txt").read_text(encoding="utf-8"), re.MULTILINE)
-    return [name for name in names if not name.endswith("_tests") and (CRATES / name / "src/lib.rt").exists()]
+    return [name for name in listed() if not name.endswith("_tests") and (CRATES / name / "src/lib.rt").exists()]
 
 
 def imports_of(text):

@@ -1,6 +1,6 @@
 """What the scripts of tests/, bench/ and tools/ share.
 
-- `repository`: where the built programs are
+- `repository`: where the built programs and the kit are
 - `results`: counts checks, and prints the last line 'N passed, M failed'
 - `processes`: a started process, with its memory and processor time
 - `servers`: wfmc, memcached and a relay, each on free ports

@@ -1,5 +1,6 @@
-"""Where the repository and its built programs are."""
+"""Where the repository, its built programs and the kit are."""
 
+import functools
 import os
 import pathlib
 import shutil
@@ -11,6 +12,12 @@ ROOT = pathlib.Path(__file__).resolve().parents[2]
 def program(name):
     """The path of a built program, from the root of the repository."""
     return f"crates/{name}/out/{name}"
+
+
+@functools.cache
+def kit():
+    """The kit's folder. Its programs find it in this way too."""
+    return pathlib.Path(shutil.which("rt")).resolve().parents[1]
 
 
 def enter(*programs):
