@@ -39,6 +39,8 @@ static const char *prefix = "key";
 static int digits = 5;  /* of a key's number */
 static size_t size = 100;
 static unsigned gets = 95;  /* of 100 requests */
+static int are_set;  /* the keys are, by an earlier run */
+static long longest, seconds;  /* how many of the longest times are printed, and after how long no more is sent; 0 for none and no end */
 static char data[MOST_DATA];
 static int poll;
 static uint64_t state = 88172645463325252u;
@@ -156,9 +158,18 @@ static double percentile(const double *times, long done, double share) {
     return times[(long)((double)done * share)];
 }
 
-int main(int count, char **words) {
-    int option, are_set = 0;
-    long longest = 0, seconds = 0;
+/* What is measured: batches of requests, and when each was answered. */
+struct run {
+    int depth;              /* requests of a batch */
+    long batches, begun, done;
+    double start, until;    /* until when batches are begun, where that is limited */
+    double *times;          /* from each batch's send to its last reply */
+    long *in_second;        /* requests that were answered in each second */
+};
+
+/* Takes in the options. Whether they are known. */
+static int take_options(int count, char **words) {
+    int option;
     while ((option = getopt(count, words, "k:p:od:g:l:s:")) != -1) {
         if (option == 'k') keys = (unsigned)atol(optarg);
         if (option == 'p') prefix = optarg;
@@ -167,46 +178,63 @@ int main(int count, char **words) {
         if (option == 'g') gets = (unsigned)atol(optarg);
         if (option == 'l') longest = atol(optarg);
         if (option == 's') seconds = atol(optarg);
-        if (option == '?') return 2;
+        if (option == '?') return 0;
     }
-    words += optind - 1, count -= optind - 1;
-    if (count != 5) return fprintf(stderr, "load [-k KEYS] [-p PREFIX] [-o] [-d BYTES] [-g PERCENT] [-l COUNT] [-s SECONDS] PORT[,PORT...] CONNECTIONS DEPTH REQUESTS\n"), 2;
-    int connections = atoi(words[2]), depth = atoi(words[3]), ports[MOST], known = 0;
-    long requests = atol(words[4]), batches = requests / depth, begun = 0, done = 0;
-    for (char *word = strtok(words[1], ","); word && known < MOST; word = strtok(NULL, ",")) ports[known++] = atoi(word);
-    if (depth < 1 || depth > MOST || connections < 1 || !known || !keys || seconds < 0 || seconds > MOST_SECONDS || size > MOST_DATA || gets > 100 || strlen(prefix) > MOST_PREFIX) return fprintf(stderr, "numbers out of range\n"), 2;
-    if (keys > 100000) digits = 7;
-    memset(data, 'v', size);
-    poll = epoll_create1(0);
-    for (int i = 0; i < known && !are_set; i++) set_keys(ports[i]);
-    long *in_second = calloc((size_t)seconds + 1, sizeof *in_second);
-    struct client *clients = calloc((size_t)connections, sizeof *clients);
-    double *times = malloc((size_t)batches * sizeof *times);
-    for (int i = 0; i < connections; i++) open_client(&clients[i], ports[i % known], depth);
-    double start = now(), until = start + (double)seconds * 1e6;
-    for (int i = 0; i < connections && begun < batches; i++, begun++) send_batch(&clients[i], depth);
-    while (done < begun) {
-        struct epoll_event events[MOST];
+    return 1;
+}
+
+/* Sends each client's next batch when the one before is answered, until all are. */
+static void answer_all(struct run *run) {
+    struct epoll_event events[MOST];
+    while (run->done < run->begun) {
         int ready = epoll_wait(poll, events, MOST, PATIENCE);
-        if (ready <= 0) return fprintf(stderr, "no reply comes\n"), 1;
+        if (ready <= 0) {
+            fprintf(stderr, "no reply comes\n");
+            exit(1);
+        }
         for (int i = 0; i < ready; i++) {
             struct client *client = events[i].data.ptr;
             send_on(client);
             if (!take_in(client)) continue;
             double moment = now();
-            times[done++] = moment - client->sent_at;
-            if (moment < until) in_second[(long)((moment - start) / 1e6)] += depth;
-            if (begun < batches && (!seconds || moment < until)) begun++, send_batch(client, depth);
+            run->times[run->done++] = moment - client->sent_at;
+            if (moment < run->until) run->in_second[(long)((moment - run->start) / 1e6)] += run->depth;
+            if (run->begun < run->batches && (!seconds || moment < run->until)) run->begun++, send_batch(client, run->depth);
         }
     }
-    double took = (now() - start) / 1e6;
-    qsort(times, (size_t)done, sizeof *times, compare);
-    printf("requests\t%.0f\trequests/s\n", (double)(done * depth) / took);
-    printf("50th percentile of the times to a reply\t%.0f\tus\n", percentile(times, done, 0.5));
-    printf("99th percentile of the times to a reply\t%.0f\tus\n", percentile(times, done, 0.99));
-    printf("99.9th percentile of the times to a reply\t%.0f\tus\n", percentile(times, done, 0.999));
+}
+
+static void print_run(const struct run *run, double took) {
+    qsort(run->times, (size_t)run->done, sizeof *run->times, compare);
+    printf("requests\t%.0f\trequests/s\n", (double)(run->done * run->depth) / took);
+    printf("50th percentile of the times to a reply\t%.0f\tus\n", percentile(run->times, run->done, 0.5));
+    printf("99th percentile of the times to a reply\t%.0f\tus\n", percentile(run->times, run->done, 0.99));
+    printf("99.9th percentile of the times to a reply\t%.0f\tus\n", percentile(run->times, run->done, 0.999));
     if (longest) printf("time of the run\t%.0f\tus\n", took * 1e6);
-    for (long i = 0; i < longest && i < done; i++) printf("longest of the times to a reply\t%.0f\tus\n", times[done - 1 - i]);
-    for (long i = 0; i < seconds; i++) printf("requests in a second\t%ld\trequests/s\n", in_second[i]);
+    for (long i = 0; i < longest && i < run->done; i++) printf("longest of the times to a reply\t%.0f\tus\n", run->times[run->done - 1 - i]);
+    for (long i = 0; i < seconds; i++) printf("requests in a second\t%ld\trequests/s\n", run->in_second[i]);
+}
+
+int main(int count, char **words) {
+    if (!take_options(count, words)) return 2;
+    words += optind - 1, count -= optind - 1;
+    if (count != 5) return fprintf(stderr, "load [-k KEYS] [-p PREFIX] [-o] [-d BYTES] [-g PERCENT] [-l COUNT] [-s SECONDS] PORT[,PORT...] CONNECTIONS DEPTH REQUESTS\n"), 2;
+    int connections = atoi(words[2]), ports[MOST], known = 0;
+    struct run run = {.depth = atoi(words[3])};
+    for (char *word = strtok(words[1], ","); word && known < MOST; word = strtok(NULL, ",")) ports[known++] = atoi(word);
+    if (run.depth < 1 || run.depth > MOST || connections < 1 || !known || !keys || seconds < 0 || seconds > MOST_SECONDS || size > MOST_DATA || gets > 100 || strlen(prefix) > MOST_PREFIX) return fprintf(stderr, "numbers out of range\n"), 2;
+    if (keys > 100000) digits = 7;
+    memset(data, 'v', size);
+    poll = epoll_create1(0);
+    for (int i = 0; i < known && !are_set; i++) set_keys(ports[i]);
+    run.batches = atol(words[4]) / run.depth;
+    run.in_second = calloc((size_t)seconds + 1, sizeof *run.in_second);
+    run.times = malloc((size_t)run.batches * sizeof *run.times);
+    struct client *clients = calloc((size_t)connections, sizeof *clients);
+    for (int i = 0; i < connections; i++) open_client(&clients[i], ports[i % known], run.depth);
+    run.start = now(), run.until = run.start + (double)seconds * 1e6;
+    for (int i = 0; i < connections && run.begun < run.batches; i++, run.begun++) send_batch(&clients[i], run.depth);
+    answer_all(&run);
+    print_run(&run, (now() - run.start) / 1e6);
     return 0;
 }
