@@ -15,8 +15,9 @@ import tempfile
 import threading
 import time
 import types
+from unittest.mock import patch
 
-import allocation_failures
+import allocation_failures as failures
 import metrics
 from harness import servers
 from harness.client import Client
@@ -26,15 +27,23 @@ PATIENCE = 10
 results = Results()
 check = results.check
 
-# What a script does that has one process in a block and one that isn't in any yet, and prints both.
+# What a script does that has a process in the block of a generator and one that isn't in any block yet, and prints both.
 SCRIPT = """
 import sys, time
 from harness.processes import Process
-with Process(["sleep", "100"]) as first:
-    second = Process(["sleep", "100"])
-    with second.ended_on_failure():
-        print(first.pid, second.pid, flush=True)
-        {what}
+
+def started():
+    with Process(["sleep", "100"]) as first:
+        yield first.pid
+
+def main():
+    for pid in started():
+        second = Process(["sleep", "100"])
+        with second.ended_on_failure():
+            print(pid, second.pid, flush=True)
+            {what}
+
+main()
 """
 
 
@@ -74,26 +83,27 @@ def failure_of(start, program):
     return said, took, is_gone(int(program.with_name("pid").read_text(encoding="ascii")))
 
 
-def check_servers():
-    """Servers that hang: they have a second here."""
-    servers.SECONDS = 1
+def check_hanging_servers():
     for what, text in (("nothing", ""), ("its listeners", "echo listening a 127.0.0.1:1"), ("half a line", "printf 'listening a'")):
-        with stand_in("wfmc", f"{text}\nexec sleep 100") as program:
+        with stand_in("wfmc", f"{text}\nexec sleep 100") as program, patch.object(servers, "SECONDS", 1):
             said, took, gone = failure_of(lambda: servers.Server(str(program)), program)
             check(f"wfmc hangs once it has said {what}", said == "TimeoutError: wfmc isn't ready after 1 seconds" and took < PATIENCE, (said, took))
             check(f"it is ended, once it has said {what}", gone)
+    for name, start in (("memcached", servers.Memcached), ("socat", lambda: servers.Relay("EXEC:true"))):
+        with stand_in(name, "exec sleep 100") as program, patch.object(servers, "SECONDS", 1):
+            with patch.dict(os.environ, PATH=f"{program.parent}:{os.environ['PATH']}"):
+                said, took, gone = failure_of(start, program)
+            check(f"{name} never listens", said == f"SystemExit: {name} doesn't listen" and took < PATIENCE, (said, took))
+            check(f"{name} is ended", gone)
+
+
+def check_other_servers():
+    """Servers that are ready, and that end before."""
     with stand_in("wfmc", "echo listening a 127.0.0.1:70\necho ready\nprintf 'done 7\\n'\necho wrong >&2") as program, servers.Server(str(program)) as server:
         check("wfmc is ready", server.ports == {"a": 70} and server.is_ready, server.ports)
         check("what it says behind that", server.wait() == (0, b"done 7\n", b"wrong\n"))
     with stand_in("wfmc", "echo wfmc: bad settings >&2; exit 2") as program, servers.Server(str(program)) as server:
         check("wfmc ends before it is ready", not server.ports and not server.is_ready and server.wait() == (2, b"", b"wfmc: bad settings\n"))
-    for name, start in (("memcached", servers.Memcached), ("socat", lambda: servers.Relay("EXEC:true"))):
-        with stand_in(name, "exec sleep 100") as program:
-            path, os.environ["PATH"] = os.environ["PATH"], f"{program.parent}:{os.environ['PATH']}"
-            said, took, gone = failure_of(start, program)
-            os.environ["PATH"] = path
-            check(f"{name} never listens", said == f"SystemExit: {name} doesn't listen" and took < PATIENCE, (said, took))
-            check(f"{name} is ended", gone)
 
 
 def check_script(what, does, how, wanted):
@@ -162,23 +172,24 @@ def check_closed():
 
 def check_hangs():
     """Programs that hang, which have a second here, are failures of a sweep, and don't end it."""
-    allocation_failures.SECONDS = servers.SECONDS = 1
     nothing, late = "exec sleep 100", "cat >/dev/null; echo late; echo 1 2 >&2"
-    with stand_in("mc_stdin", nothing) as program:
-        check("a stream that hangs", allocation_failures.fed([program], b"", None) == allocation_failures.HUNG)
-        check("a client that hangs", allocation_failures.by_turns(None, [program]) == allocation_failures.HUNG)
+    with patch.object(failures, "SECONDS", 1), patch.object(servers, "SECONDS", 1):
+        with stand_in("mc_stdin", nothing) as program:
+            check("a stream that hangs", failures.fed([program], b"", None) == failures.HUNG)
+            check("a client that hangs", failures.by_turns(None, [program]) == failures.HUNG)
+        with stand_in("mc_stdin", late) as program:
+            check("a client that is answered at its end", failures.by_turns(None, [program]) == failures.HUNG)
+        with stand_in("wfmc", nothing) as program, patch.object(failures, "WFMC", str(program)):
+            check("a server that hangs", failures.serve_clients(None) == (failures.HUNG, []))
     with stand_in("mc_stdin", late) as program:
-        check("a stream that is answered at its end", allocation_failures.fed([program], b"x", None) == (0, b"late\n", b"1 2\n"))
-        check("a client that is answered at its end", allocation_failures.by_turns(None, [program]) == allocation_failures.HUNG)
-    judges = allocation_failures.judge_stdin, lambda ended, mode: allocation_failures.judge_wfmc((ended, []), mode)
-    check("no judge lets it pass", all(judge(allocation_failures.HUNG, "one")[1] is False for judge in judges))
-    with stand_in("wfmc", nothing) as program:
-        allocation_failures.WFMC = str(program)
-        check("a server that hangs", allocation_failures.serve_clients(None) == (allocation_failures.HUNG, []))
+        check("a stream that is answered at its end", failures.fed([program], b"x", None) == (0, b"late\n", b"1 2\n"))
+    judges = failures.judge_stdin, lambda ended, mode: failures.judge_wfmc((ended, []), mode)
+    check("no judge lets it pass", all(judge(failures.HUNG, "one")[1] is False for judge in judges))
 
 
 def main():
-    check_servers()
+    check_hanging_servers()
+    check_other_servers()
     check_scripts()
     check_fork()
     check_closed()
