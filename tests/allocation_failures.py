@@ -125,7 +125,7 @@ def at_once(environment):
 def next_of(pipe, count, until):
     """The next bytes that a program writes, as many as these or fewer, where it ends; a `TimeoutError` where they don't come until then."""
     received, poll = b"", select.poll()
-    poll.register(pipe)
+    poll.register(pipe, select.POLLIN)
     while len(received) < count:
         if not poll.poll(1000 * max(0.0, until - time.monotonic())):
             raise TimeoutError

@@ -81,7 +81,7 @@ class Server(Process):
     def _line(self, until):
         """The next line that it prints, and no byte behind it; nothing once it has ended. The line is to come until then."""
         line, output, poll = bytearray(), self.process.stdout.fileno(), select.poll()
-        poll.register(output)
+        poll.register(output, select.POLLIN)
         while not line.endswith(b"\n"):
             if not poll.poll(1000 * max(0.0, until - time.monotonic())):
                 raise TimeoutError(f"wfmc isn't ready after {SECONDS} seconds")
