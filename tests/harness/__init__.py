@@ -2,7 +2,7 @@
 
 - `repository`: where the built programs and the kit are
 - `results`: counts checks, and prints the last line 'N passed, M failed'
-- `processes`: a started process, with its memory and processor time
+- `processes`: a started process, with its memory and processor time; SIGTERM ends a script and what it has started
 - `servers`: wfmc, memcached and a relay, each on free ports
 - `client`: connections
 - `answers`: clients that have asked, and whether they are answered
