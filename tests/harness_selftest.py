@@ -165,7 +165,7 @@ def check_closed():
             check(f"a scrape's reply of {len(sent)} bytes", status == wanted and body == ("1234567890" if wanted.endswith("OK") else ""), (status, body))
     with closing(b"") as port:
         server = types.SimpleNamespace(ports={"metrics": port}, client=lambda _: Client(port, seconds=PATIENCE))
-        wrong, served, counts = metrics.at_full_speed(server, "ab", seconds=0.5)
+        wrong, served, counts = metrics.at_full_speed(server, "ab", seconds=2)
         check("threads that have died have counted nothing", served == {"a": 0, "b": 0} and counts == [0, 0, 0], (served, counts))
         check("and that is wrong", sum(one.startswith(("BrokenPipeError", "ConnectionResetError")) for one in wrong) == 5, wrong[-5:])
 
