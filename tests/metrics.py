@@ -33,6 +33,8 @@ PROMTOOL = os.environ.get("PROMTOOL") or shutil.which("promtool")
 RULES = str(repository.ROOT / "etc/prometheus-wfmc.rules.yml")
 PATIENCE = 5
 PLACES = 500
+# After how many places an idle worker is woken (docs/OPERATING.md).
+STRIDE = 4096
 MOST = 16
 SAMPLE = re.compile(r'([a-z_]+)(?:\{([a-z_]+="[^"]*"(?:,[a-z_]+="[^"]*")*)\})? ([0-9.]+)')
 results = Results()
@@ -183,8 +185,16 @@ def check_pages(server):
     check_by_promtool(text)
 
 
+def fallen_lags(server, most):
+    """The lags of two workers, once none is above this, or after some patience."""
+    until = time.monotonic() + PATIENCE
+    while max(lags := lags_of(scrape(server), 2)) > most and time.monotonic() < until:
+        time.sleep(0.02)
+    return lags
+
+
 def check_lag():
-    """A few commands don't wake the worker that has no command of its own: it lags until it has one."""
+    """A few commands don't wake the worker that has no command of its own: it lags until it has one, or until many places were used."""
     with Server(PROGRAM, ("--workers", "2", *METRICS)) as server:
         busy, idle = server.client("a", 0), server.client("a", 1)
         check("an idle worker's client", idle.line(b"version\r\n") == "VERSION 1.0.0")
@@ -195,6 +205,11 @@ def check_lag():
         # A get keeps a byte more for each of its keys.
         lags = lags_of(awaits(server, "what both have done", {"wfmc_log_used_places": 51, "wfmc_log_bytes": 50 * 66 + 66}), 2)
         check("a worker that has caught up", min(lags) == 0 and max(lags) <= 1, str(lags))
+        replies = busy.ask(b"get k\r\n" * (2 * STRIDE) + b"version\r\n", b"VERSION 1.0.0\r\n")
+        check("a busy worker's gets", replies.count(b"END\r\n") == 2 * STRIDE)
+        awaits(server, "what the busy worker has done then", {"wfmc_log_used_places": 51 + 2 * STRIDE})
+        lags = fallen_lags(server, STRIDE)
+        check("a worker that is woken where many places were used", max(lags) <= STRIDE, str(lags))
 
 
 def check_by_promtool(text):
@@ -353,7 +368,7 @@ def at_full_speed(server, tenants, seconds=3):
 
 def check_full_speed():
     """Scrapes as fast as they come, over logs that follow one another, while clients of two tenants are answered as ever."""
-    tenants = {"a": LARGE, "b": LARGE}
+    tenants, begun = {"a": LARGE, "b": LARGE}, time.monotonic()
     with Server(PROGRAM, ("--workers", "2", "--places", str(PLACES), "--generations", "0", *METRICS), tenants) as server:
         wrong, served, counts = at_full_speed(server, tenants)
         check("replies and scrapes at full speed", not wrong, str(wrong[:5]))
@@ -366,7 +381,9 @@ def check_full_speed():
         shown = awaits(server, "what two clients leave", wanted)
         logs = 4 * total // PLACES
         check("logs that followed", logs // 2 <= shown["wfmc_log_generation"] <= logs + 2, f"{shown['wfmc_log_generation']} {logs}")
-        check("turn overs", shown["wfmc_turn_over_seconds_count"] == shown["wfmc_log_generation"] - 1 and shown["wfmc_turn_over_seconds_sum"] > 0)
+        check("turn overs", shown["wfmc_turn_over_seconds_count"] == shown["wfmc_log_generation"] - 1)
+        seconds, passed = shown["wfmc_turn_over_seconds_sum"], time.monotonic() - begun
+        check("their time, in seconds", 0 < seconds < passed, f"{seconds} {passed}")
 
 
 def closing_of(scraper):

@@ -4,7 +4,7 @@
 Every golden test of mc_stdin that a server can answer (tests/rows/mc_stdin): its input over one connection, whole and, where it is short, a
 byte at a time, by 1 and by 4 workers (over several logs by 1); the bytes that come back must be the same. Then clients that others must not notice: one that closes
 in the middle of a block, one that resets, one that never reads, more connections than a worker takes, two tenants with the same key, 500
-commands of 8 clients at once, all places of the longest log, and logs that follow one another once their places are taken, or their bytes,
+commands of 8 clients at once, 64 tenants, all places of the longest log, and logs that follow one another once their places are taken, or their bytes,
 while clients are cut off around each turn over.
 An administrator, whose quotas are in force at every worker, and whom no tenant locks out. Tenants for whom places are kept, and clients who
 are served by another worker where theirs has no place (network_places.py). And clients that nobody may forget: the process is stopped until
@@ -124,6 +124,27 @@ def check_tenants():
         check("the first tenant's", answer(server, "a", b"set a 0 0 1\r\nx\r\ngets a\r\nquit\r\n") == b"STORED\r\nVALUE a 0 1 1\r\nx\r\nEND\r\n")
         check("the second tenant's", answer(server, "b", b"gets a\r\nset a 0 0 1\r\ny\r\ngets a\r\nquit\r\n") == b"END\r\nSTORED\r\nVALUE a 0 1 1\r\ny\r\nEND\r\n")
         check("the end", server.wait() == (0, b"done 5\n", b""))
+
+
+def check_all_tenants():
+    """64 tenants at two workers: each reads what it has stored itself, and quotas go to the one that an administrator names."""
+    tenants = {f"t{number}": LARGE for number in range(64)}
+    with Server(PROGRAM, [*ADMIN, "--workers", "2"], tenants) as server:
+        clients = {name: server.connect(name) for name in tenants}
+        for name, client in clients.items():
+            client.sendall(b"set k 0 0 3\r\n%-3s\r\n" % name.encode())
+        check("each of 64 tenants stores", are_answered(clients.values(), b"STORED\r\n"))
+        for client in clients.values():
+            client.sendall(b"gets k\r\n")
+        held = {name: is_answered(client, b"VALUE k 0 3 1\r\n%-3s\r\nEND\r\n" % name.encode()) for name, client in clients.items()}
+        check("each of 64 tenants reads its own", all(held.values()), " ".join(name for name, right in held.items() if not right))
+        check("quotas of the last one", answer(server, "admin", b"limit t63 1 100\r\nquit\r\n") == b"OK\r\n")
+        for client in clients.values():
+            client.sendall(b"set l 0 0 1\r\nx\r\n")
+        held = {name: is_answered(client, NO_ROOM if name == "t63" else b"STORED\r\n") for name, client in clients.items()}
+        check("they are its own", all(held.values()), " ".join(name for name, right in held.items() if not right))
+        for client in clients.values():
+            client.close()
 
 
 def check_others_unnoticed():
@@ -598,6 +619,7 @@ def main():
     allow_connections()
     check_golden_tests()
     check_tenants()
+    check_all_tenants()
     check_others_unnoticed()
     check_too_many()
     check_admin()
