@@ -50,7 +50,7 @@ count python3 tests/fuzz.py --seed 77 --round 1 --generations --within --log-byt
 echo "calls of workers, with each allocation refused in turn"
 count python3 tests/allocation_failures.py calls
 echo "the metrics of an example, as Prometheus reads them"
-count passes python3 tests/exposition.py
+count python3 tests/exposition.py
 echo "the metrics of wfmc, while it serves"
 count python3 tests/metrics.py
 echo "the manual pages, installing, and packages"
@@ -60,9 +60,10 @@ count tests/package_selftest.sh
 echo "the states of a small core, and wrong definitions of it"
 count python3 tests/core_states.py
 count python3 tests/wrong_definitions.py
-echo "the scripts that prove and that try"
+echo "the scripts that prove and that try, and what tests share"
 count tests/prove_selftest.sh
 count tests/try_selftest.sh refusals
+count python3 tests/harness_selftest.py
 echo "names, layers, the picture of the crates, the generated documents, and the rows of what differs from memcached"
 count passes python3 tools/layers.py
 count passes tools/picture.py --check
