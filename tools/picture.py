@@ -41,6 +41,7 @@ SAYS = {
     "mc_net": "sockets and threads",
     "mc_programs": "programs over streams",
     "mc_server": "the words of wfmc, its log",
+    "mc_server_laws": "what follows above tables",
     "mc_stdin": "one client, by pipes",
     "mc_schedule": "tries a schedule",
     "wfmc": "the server",

@@ -2,6 +2,8 @@ mod Keys
 mod LineWords
 mod LimitWords
 mod LinesRead
+mod Ends
+mod Faults
 mod Names
 mod Puts
 mod Quotas

@@ -1,6 +1,6 @@
 -- Quotas that an administrator's line sets are those of its words.
 use Rattle.std.proofs.Common.{◌≡◌, ℕ, zero, suc, Bool, true, false, cond, List, [], ◌∷◌, ◌++◌, length, take, drop, Option, Some, None, codes, inl, inr, refl, sym, ap, subst, arith}
-use Rattle.std.specs.Prelude.{⊤}
+use Rattle.mc_model.specs.declared.reply.Reply.{Reply}
 use Rattle.mc_model.specs.declared.reply.Reply.TheVariants.{Version}
 use Rattle.mc_model.specs.declared.request.Request.{Request}
 use Rattle.mc_model.specs.declared.request.Request.TheVariants.{Limit, Local, Logged, Quit, TooLong}
@@ -9,7 +9,7 @@ use Rattle.mc_model.specs.declared.settings.TheConstants.{MAX_BYTES, MAX_ITEMS}
 use Rattle.mc_model.specs.Name.{is_lawful_name}
 use Rattle.mc_model.specs.Number.{number_up_to}
 use Rattle.mc_model.specs.Settings.{both_quotas, limits_named, positive}
-use Rattle.mc_laws.proofs.LineWords.{same_line, same_word, says_noreply, spelled_by}
+use Rattle.mc_laws.proofs.LineWords.{IsTold, same_line, same_word, says_noreply, spelled_by}
 use Rattle.mc_laws.specs.Lines.{IsLimitLineOf}
 use Rattle.mc_read.specs.declared.line.Asked.{Asked}
 use Rattle.mc_read.specs.declared.line.Asked.TheVariants.{LineOnly, RefusedBlock, StoredBlock}
@@ -20,18 +20,18 @@ use Rattle.mc_read.specs.Sending.{noreply_if}
 use Rattle.mc_read.specs.Text.{IsRequestText, IsUnbroken, body_length, ends_well, request_of, stored_if}
 use Rattle.mc_read.specs.Word.{is_noreply, is_word, words}
 
--- a request, if it sets quotas, is that of these words; so is what a line with these words asks for
+-- a request is that of these words; so is what a line with these words asks for
 abbrev IsOwn : List (List ℕ) → Request → Type 0
-IsOwn parts (Logged command quiet) = ⊤
-IsOwn parts (Local reply quiet) = ⊤
+IsOwn parts (Logged command quiet) = ⊥
+IsOwn parts (Local reply quiet) = IsTold parts reply quiet
 IsOwn parts (Limit name limits quiet) = IsLimitLineOf name limits quiet parts []
-IsOwn parts Quit = ⊤
-IsOwn parts TooLong = ⊤
+IsOwn parts Quit = parts ≡ codes "quit" ∷ []
+IsOwn parts TooLong = ⊥
 
 abbrev Asks : List (List ℕ) → Asked → Type 0
 Asks parts (LineOnly request) = IsOwn parts request
-Asks parts (RefusedBlock size refusal quiet) = ⊤
-Asks parts (StoredBlock header) = ⊤
+Asks parts (RefusedBlock size refusal quiet) = ⊥
+Asks parts (StoredBlock header) = ⊥
 
 module _ (name items bytes : List ℕ) (more : List (List ℕ)) (quiet : Bool) where
   abbrev limit_words : List (List ℕ)
@@ -68,9 +68,9 @@ asks_of_limit (name ∷ items ∷ bytes ∷ []) = asks_of_setting name items byt
 asks_of_limit (name ∷ items ∷ bytes ∷ last ∷ []) = asks_of_setting name items bytes (last ∷ []) true (is_noreply last) (says_noreply last)
 asks_of_limit (name ∷ items ∷ bytes ∷ last ∷ other ∷ others) = tt
 
-asks_of_name : (parts : List (List ℕ)) (request : Request) (arguments : List (List ℕ)) → IsOwn parts request → Asks parts (asked_of_name request arguments)
-asks_of_name parts request [] asks = asks
-asks_of_name parts request (word ∷ others) asks = tt
+asks_of_name : (name : List ℕ) (request : Request) (arguments : List (List ℕ)) → IsOwn (name ∷ []) request → Asks (name ∷ arguments) (asked_of_name request arguments)
+asks_of_name name request [] asks = asks
+asks_of_name name request (word ∷ others) asks = tt
 
 by_name : (name known : List ℕ) (arguments : List (List ℕ)) (a b : Asked) → Asks (known ∷ arguments) a → Asks (name ∷ arguments) b → Asks (name ∷ arguments) (cond (is_word name known) a b)
 by_name name known arguments a b same other = by_test (is_word name known) refl
@@ -83,8 +83,19 @@ asks_of_admin : (parts : List (List ℕ)) → Asks parts (asked_of_admin parts)
 asks_of_admin [] = tt
 asks_of_admin (name ∷ arguments) =
     by_name name (codes "limit") arguments _ _ (asks_of_limit arguments)
-    (by_name name (codes "version") arguments _ _ (asks_of_name (codes "version" ∷ arguments) (Local Version false) arguments tt)
-    (by_name name (codes "quit") arguments _ _ (asks_of_name (codes "quit" ∷ arguments) Quit arguments tt) tt))
+    (by_name name (codes "version") arguments _ _ (asks_of_name (codes "version") (Local Version false) arguments (refl, refl))
+    (by_name name (codes "quit") arguments _ _ (asks_of_name (codes "quit") Quit arguments refl) tt))
+
+-- what an administrator's line asks for besides quotas
+module _ (line : List ℕ) where
+  pub admin_quit_line : asked_by_admin line ≡ LineOnly Quit → words line ≡ codes "quit" ∷ []
+  admin_quit_line is = subst (Asks (words line)) is (asks_of_admin (words line))
+
+  pub admin_told_line : (reply : Reply) (quiet : Bool) → asked_by_admin line ≡ LineOnly (Local reply quiet) → IsTold (words line) reply quiet
+  admin_told_line reply quiet is = subst (Asks (words line)) is (asks_of_admin (words line))
+
+  pub no_long_admin_line : asked_by_admin line ≡ LineOnly TooLong → ⊥
+  no_long_admin_line is = subst (Asks (words line)) is (asks_of_admin (words line))
 
 module _ (parts : List (List ℕ)) (name : List ℕ) (limits : Limits) (quiet : Bool) where
   none_stored : (header : Header) (block : List ℕ) (is_whole : Bool) → stored_if is_whole header block ≡ Limit name limits quiet → ⊥

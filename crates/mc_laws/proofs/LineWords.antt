@@ -10,7 +10,8 @@ use Rattle.mc_model.specs.declared.command.Command.{Command}
 use Rattle.mc_model.specs.declared.command.Command.TheVariants.{Delete, Flush, Get}
 use Rattle.mc_model.specs.declared.command.Verb.{Verb}
 use Rattle.mc_model.specs.declared.command.Verb.TheVariants.{Add, Append, Prepend, Replace, Set}
-use Rattle.mc_model.specs.declared.reply.Reply.TheVariants.{Version}
+use Rattle.mc_model.specs.declared.reply.Reply.{Reply}
+use Rattle.mc_model.specs.declared.reply.Reply.TheVariants.{Refused, Version}
 use Rattle.mc_model.specs.declared.reply.TheConstants.WireNo.{BAD_DELTA, BAD_FORMAT}
 use Rattle.mc_model.specs.declared.reply.WireNo.{WireNo}
 use Rattle.mc_model.specs.declared.request.Request.{Request}
@@ -68,13 +69,19 @@ all_pass [] none = tt
 all_pass ((true, refusal) ∷ checks) none = (refl, all_pass checks none)
 all_pass ((false, refusal) ∷ checks) none = absurd (none-some refusal (sym none))
 
--- a request, if it is a command, is that of these words and this body
+-- what is answered without the log is a refusal, of any words, or the version to that one word
+abbrev pub IsTold : List (List ℕ) → Reply → Bool → Type 0
+IsTold parts (Refused refusal) quiet = ⊤
+IsTold parts Version quiet = (parts ≡ codes "version" ∷ []) × (quiet ≡ false)
+IsTold parts other quiet = ⊥
+
+-- a request is that of these words and this body
 abbrev IsOwn : List (List ℕ) → List ℕ → Request → Type 0
 IsOwn parts body (Logged command quiet) = IsLineOf command quiet parts body
-IsOwn parts body (Local reply quiet) = ⊤
-IsOwn parts body (Limit name limits quiet) = ⊤
-IsOwn parts body Quit = ⊤
-IsOwn parts body TooLong = ⊤
+IsOwn parts body (Local reply quiet) = IsTold parts reply quiet
+IsOwn parts body (Limit name limits quiet) = ⊥
+IsOwn parts body Quit = parts ≡ codes "quit" ∷ []
+IsOwn parts body TooLong = ⊥
 
 -- so is what a line with these words asks for
 abbrev Asks : List (List ℕ) → Asked → Type 0
@@ -226,9 +233,9 @@ asks_of_flush (exptime ∷ last ∷ []) =
     (λ passing. (inr (exptime, ap (λ m. codes "flush_all" ∷ exptime ∷ m) (says_noreply last passing.0), (passing.1.0, passing.1.1.0)), refl))
 asks_of_flush (exptime ∷ last ∷ other ∷ others) = tt
 
-asks_of_name : (parts : List (List ℕ)) (request : Request) (arguments : List (List ℕ)) → Asks parts (LineOnly request) → Asks parts (asked_of_name request arguments)
-asks_of_name parts request [] asks = asks
-asks_of_name parts request (word ∷ others) asks = tt
+asks_of_name : (name : List ℕ) (request : Request) (arguments : List (List ℕ)) → Asks (name ∷ []) (LineOnly request) → Asks (name ∷ arguments) (asked_of_name request arguments)
+asks_of_name name request [] asks = asks
+asks_of_name name request (word ∷ others) asks = tt
 
 -- All lines, by their names.
 module _ (name : List ℕ) (arguments : List (List ℕ)) where
@@ -243,8 +250,8 @@ module _ (name : List ℕ) (arguments : List (List ℕ)) where
   asks_of_others =
       by_name (codes "delete") _ _ (asks_of_delete arguments)
       (by_name (codes "flush_all") _ _ (asks_of_flush arguments)
-      (by_name (codes "version") _ _ (asks_of_name (codes "version" ∷ arguments) (Local Version false) arguments tt)
-      (by_name (codes "quit") _ _ (asks_of_name (codes "quit" ∷ arguments) Quit arguments tt) tt)))
+      (by_name (codes "version") _ _ (asks_of_name (codes "version") (Local Version false) arguments (refl, refl))
+      (by_name (codes "quit") _ _ (asks_of_name (codes "quit") Quit arguments refl) tt)))
 
   asks_without_block : Asks (name ∷ arguments) (asked_without_block name arguments)
   asks_without_block =
@@ -270,6 +277,17 @@ module _ (name : List ℕ) (arguments : List (List ℕ)) where
 asks_by : (parts : List (List ℕ)) → Asks parts (asked_by parts)
 asks_by [] = tt
 asks_by (name ∷ arguments) = asks_by_verb name arguments (verb_named name) (named name arguments)
+
+-- what is asked for without a block is that of the line's words
+module _ (line : List ℕ) where
+  pub quit_line : asked line ≡ LineOnly Quit → words line ≡ codes "quit" ∷ []
+  quit_line is = subst (Asks (words line)) is (asks_by (words line))
+
+  pub told_line : (reply : Reply) (quiet : Bool) → asked line ≡ LineOnly (Local reply quiet) → IsTold (words line) reply quiet
+  told_line reply quiet is = subst (Asks (words line)) is (asks_by (words line))
+
+  pub no_long_line : asked line ≡ LineOnly TooLong → ⊥
+  no_long_line is = subst (Asks (words line)) is (asks_by (words line))
 
 -- Texts.
 -- two lines without a line feed that begin the same text are the same, and so are their bodies

@@ -68,7 +68,7 @@ block_stored storage key flags block quiet = λ i.
     stored_if (ends_well (drop_at block (13 ∷ 10 ∷ []) (length block) refl i)) (record { length = length block; storage = storage; key = key; flags = flags; quiet = quiet })
     (take_at block (13 ∷ 10 ∷ []) (length block) refl i)
 
-name_asked : (verb : Verb) (arguments : List (List ℕ)) → asked_by (verb_name verb ∷ arguments) ≡ asked_of_storage verb arguments
+pub name_asked : (verb : Verb) (arguments : List (List ℕ)) → asked_by (verb_name verb ∷ arguments) ≡ asked_of_storage verb arguments
 name_asked Set arguments = refl
 name_asked Add arguments = refl
 name_asked Replace arguments = refl

@@ -1,0 +1,4 @@
+mod Capped
+mod Demands
+mod Names
+mod Needs
