@@ -33,13 +33,14 @@ fn tally_of(unit: usize) -> Tally {
     tally
 }
 
-/// Returns a tenant of this name, whose numbers are multiples of one.
+/// Returns a tenant of this name, whose numbers are multiples of one; its hits are as many below the
+/// largest number.
 fn tenant(alloc: Global, name: &[u8], unit: u64) -> io::Result<TenantNumbers> {
     let Ok(Some(name)) = Name::new(alloc, name) else {
         return Err(io::ErrorKind::OutOfMemory.into());
     };
     let mut tally = tally_of(unit as usize);
-    tally.hits = unit.saturating_mul(3);
+    tally.hits = u64::MAX.saturating_sub(unit);
     tally.misses = unit.saturating_mul(4);
     Ok(TenantNumbers {
         name,
@@ -79,7 +80,7 @@ fn example(alloc: Global) -> io::Result<Snapshot> {
             bytes: 567_890,
             generation: 3,
             turn_overs: 2,
-            turn_over_micros: 1_002_030,
+            turn_over_micros: 4_321_098_765,
         },
         resident_bytes: Some(u64::MAX),
     })
