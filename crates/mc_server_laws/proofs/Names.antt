@@ -1,5 +1,5 @@
 -- Names that are distinct stand at one place each.
-use Rattle.std.proofs.Common.{◌≡◌, ◌≢◌, ℕ, ◌+◌, ◌<◌, zero, suc, Bool, true, false, List, [], ◌∷◌, ◌++◌, length, map, Option, Some, None, slice_get, refl, sym, ap, subst, ◌∙◌, arith}
+use Rattle.std.proofs.Common.{◌≡◌, ◌≢◌, ℕ, ◌+◌, ◌<◌, zero, suc, true, false, List, [], ◌∷◌, ◌++◌, length, map, Option, Some, None, slice_get, refl, sym, ap, subst, ◌∙◌, arith}
 use Rattle.std.proofs.lemmas.Bool.{false≢true}
 use Rattle.std.proofs.lemmas.Option.{none-some, same_Some, slice_get-map}
 use Rattle.std.proofs.lemmas.Slice.Eq.{bytes_eq-Decides}
@@ -23,6 +23,7 @@ unlike one other apart same = false≢true (sym apart ∙ (bytes_eq-Decides one 
 
 at_one_place : (names : List (List ℕ)) → IsDistinct bytes_eq names → (one other : ℕ) (first second : List ℕ) →
     slice_get names one ≡ Some first → slice_get names other ≡ Some second → first ≡ second → one ≡ other
+unfolding IsDistinct
 at_one_place [] apart one other first second here there same = absurd (none-some first here)
 at_one_place (name ∷ names) apart zero zero first second here there same = refl
 at_one_place (name ∷ names) apart zero (suc other) first second here there same =
@@ -32,11 +33,13 @@ at_one_place (name ∷ names) apart (suc one) zero first second here there same 
 at_one_place (name ∷ names) apart (suc one) (suc other) first second here there same = ap suc (at_one_place names apart.1 one other first second here there same)
 
 behind : {X : Type 0} (front list : List X) (place : ℕ) → slice_get (front ++ list) (length front + place) ≡ slice_get list place
-behind [] list place = refl
-behind (x ∷ front) list place = behind front list place
+behind [] list place = ap (slice_get list) (omega arith)
+behind (x ∷ front) list place =
+    let next : length (x ∷ front) + place ≡ suc (length front + place) = omega arith in
+    ap (slice_get (x ∷ front ++ list)) next ∙ behind front list place
 
 module _ (asked : NetworkAsked) (servable : IsServable asked) where
-  reserved : List (List ℕ)
+  abbrev reserved : List (List ℕ)
   reserved = reserved_names asked.admin asked.metrics
 
   -- where a tenant's name stands among all names

@@ -1,5 +1,5 @@
 -- What a worker needs is enabled, and it needs nothing only at its end.
-use Rattle.std.proofs.Common.{◌≡◌, ◌≢◌, ◌⊎◌, inl, inr, ℕ, ◌≤◌, Bool, true, false, not, ◌&&◌, length, ltb, is_some, Option, Some, None, IfSome, slice_get, if◌then◌else◌, refl, sym, ap, ap₂, subst, ◌∙◌, arith}
+use Rattle.std.proofs.Common.{◌≡◌, ◌⊎◌, inl, inr, ℕ, ◌≤◌, Bool, true, false, not, ◌&&◌, length, ltb, is_some, Option, Some, None, IfSome, slice_get, if◌then◌else◌, refl, sym, ap, ap₂, subst, ◌∙◌, arith}
 use Rattle.std.proofs.lemmas.Bool.Decides.{nat_tests}
 use Rattle.std.proofs.lemmas.Option.{none-some, same_Some}
 use Rattle.std.specs.Option.{option_and_then, option_map}
@@ -13,7 +13,7 @@ use Rattle.uc_core.specs.Core.{CoreState, ReplayState}
 use Rattle.uc_core.specs.Showing.{progress_by, progress_of}
 use Rattle.uc_core.specs.Step.{actor, refusal, refusal_by, refusal_of}
 use Rattle.uc_core.specs.declared.event.Event.{Event}
-use Rattle.uc_core.specs.declared.event.Event.TheVariants.{Look, Propose, Read, Replay}
+use Rattle.uc_core.specs.declared.event.Event.TheVariants.{Look, Read, Replay}
 use Rattle.uc_core.specs.declared.machine.Progress.{Progress}
 
 -- what may be said of an event that this worker needs, by what the event meets
