@@ -10,9 +10,9 @@ Usage: bench/neighbours.py [BINARY [CASE...]] [--seconds N] [--runs N] [--calm M
 [--preload LIBRARY]; the binary is crates/wfmc/out/wfmc and all cases are measured where none is named, for N (5) seconds each. With several
 runs, by turns, the last lines are of each case the median, the least and the greatest of its 99th percentiles in the calm runs alone, those in
 which nobody's was at most as many microseconds (40): where the machine itself keeps a client waiting, the server's part can't be told. The logs
-follow one another, each of 1,048,576 places or 256 MiB. With --preload wfmc takes its memory by that library's allocator. Of three or more
-processors the quiet client has one, the noisy ones have one, and the server has the others. Takes some minutes and up to 4 GB of memory; needs
-gcc, and memcached unless told otherwise.
+follow one another, each of 1,048,576 places or 256 MiB. wfmc takes its memory by the allocator of the defaults file, with --preload by that of
+another library, and with --preload none by the C library's. Of three or more processors the quiet client has one, the noisy ones have one, and the
+server has the others. Takes some minutes and up to 4 GB of memory; needs gcc, that library, and memcached unless told otherwise.
 """
 
 import argparse

@@ -4,10 +4,11 @@
 
 A row has a number of connections with so many requests at a time each, of which 95 or 50 in 100 are gets and the others sets, data of
 100 bytes to 1 MiB, and keys. A log is closed after 1 GiB (--log-bytes), and has as many places (--places) as that has data for, at most
-1,048,576. With --preload wfmc takes its memory by that library's allocator. For each row the servers are started by turns, anew for each of
-RUNS (3) runs of N (3) seconds, with as many workers as threads (1, 2 and 4). Prints for each row and server the median, the least and the
-greatest: requests a second, the server's processor time a request, and its page faults a request. With --rows only rows whose names have
-WORD are measured. Needs memcached and gcc; the rows of 1,000,000 keys and of long data take up to 4 GB of memory.
+1,048,576. wfmc takes its memory by the allocator of the defaults file, with --preload by that of another library, and with --preload none by the C
+library's. For each row the servers are started by turns, anew for each of RUNS (3) runs of N (3) seconds, with as many workers as threads (1, 2 and
+4). Prints for each row and server the median, the least and the greatest: requests a second, the server's processor time a request, and its page
+faults a request. With --rows only rows whose names have WORD are measured. Needs memcached, gcc and that library; the rows of 1,000,000 keys and of
+long data take up to 4 GB of memory.
 """
 
 import argparse

@@ -3,7 +3,8 @@
 # follow one another, each server with no more memory than docs/OPERATING.md says, and killed once its round is over. Each of the three goes on
 # for MINUTES (20) with each number of workers, so an hour in all; the neighbours end at what fails first.
 # Prints the last lines of each; the last line is 'N passed, M failed', of the three together. What they print in full stays in out/soak/. An
-# interrupt ends all three, with their servers.
+# interrupt ends all three, with their servers. The servers take their memory by the C library's allocator, or by the one that LD_PRELOAD names, as the
+# defaults file does.
 #
 # Usage: tests/soak.sh [MINUTES]
 set -euo pipefail
@@ -27,7 +28,7 @@ trap 'exit 143' TERM HUP
 neighbours() {
     local end=$((SECONDS + seconds)) rounds=0
     while [ "$SECONDS" -lt "$end" ]; do
-        python3 bench/neighbours.py --workers "$1" --seconds 10 --no-memcached || { echo "$rounds passed, 1 failed"; return 1; }
+        python3 bench/neighbours.py --workers "$1" --seconds 10 --no-memcached --preload "${LD_PRELOAD:-none}" || { echo "$rounds passed, 1 failed"; return 1; }
         rounds=$((rounds + 1))
     done
     echo "$rounds passed, 0 failed"

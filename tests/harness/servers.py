@@ -33,9 +33,16 @@ FEW_PLACES = 64
 PLACES_ABOVE = 4_096
 
 
-def preloading(library):
-    """The environment of a server that takes memory by this library's allocator; `None` for the C library's."""
-    return {**os.environ, "LD_PRELOAD": library} if library else None
+def preloading(library=None):
+    """The environment of a server by this library's allocator, by the C library's for `none`, or by that of the defaults file."""
+    environment = {name: value for name, value in os.environ.items() if name != "LD_PRELOAD"}
+    library = library or re.search(r"^LD_PRELOAD=(.*)$", (ROOT / "etc/wfmc.default").read_text(encoding="utf-8"), re.M)[1]
+    if library == "none":
+        return environment
+    environment["LD_PRELOAD"] = library
+    if "cannot be preloaded" in subprocess.run(["true"], env=environment, capture_output=True, text=True).stderr:
+        sys.exit(f"{library} is missing: apt-get install libtcmalloc-minimal4, or --preload none")
+    return environment
 
 
 def endless(log_bytes=None):
