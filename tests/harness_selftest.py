@@ -27,9 +27,12 @@ PATIENCE = 10
 results = Results()
 check = results.check
 
-# What a script does that has a process in the block of a generator and one that isn't in any block yet, and prints both.
+# What a script does that has a process in the block of a generator and one that isn't in any block yet.
 SCRIPT = """
-import sys, time
+import os, sys, time
+from concurrent.futures import ProcessPoolExecutor
+from multiprocessing.context import ForkProcess
+from multiprocessing.process import BaseProcess
 from harness.processes import Process
 
 def started():
@@ -40,8 +43,7 @@ def main():
     for pid in started():
         second = Process(["sleep", "100"])
         with second.ended_on_failure():
-            print(pid, second.pid, flush=True)
-            {what}
+            {does}
 
 main()
 """
@@ -107,8 +109,8 @@ def check_other_servers():
 
 
 def check_script(what, does, how, wanted):
-    """A script that is told to end so, while it does something, has this status, and its processes are gone."""
-    words = [sys.executable, "-c", SCRIPT.format(what=does)]
+    """A script that does these lines, and is told to end so once it has printed its processes, has this status, and they are gone."""
+    words = [sys.executable, "-c", SCRIPT.format(does="\n            ".join(does))]
     with subprocess.Popen(words, cwd=pathlib.Path(__file__).parent, stdout=subprocess.PIPE, stderr=subprocess.DEVNULL, text=True) as script:
         pids = script.stdout.readline().split()
         script.send_signal(how)
@@ -118,7 +120,7 @@ def check_script(what, does, how, wanted):
             status = "none"
             script.kill()
     check(f"{what}: its status", status == wanted, status)
-    check(f"{what}: its processes are gone", len(pids) == 2 and all(is_gone(pid) for pid in pids), pids)
+    check(f"{what}: its processes are gone", len(pids) > 1 and all(is_gone(pid) for pid in pids), pids)
 
 
 def check_fork():
@@ -135,9 +137,16 @@ def check_fork():
 
 
 def check_scripts():
-    check_script("a script that is told to end", "time.sleep(100)", signal.SIGTERM, 143)
-    check_script("one that waits for a process", "second.process.wait()", signal.SIGTERM, 143)
-    check_script("one that fails", "sys.stdin.missing", signal.SIGCONT, 1)
+    two = "print(pid, second.pid, flush=True)"
+    check_script("a script that is told to end", [two, "time.sleep(100)"], signal.SIGTERM, 143)
+    check_script("one that waits for a process", [two, "second.process.wait()"], signal.SIGTERM, 143)
+    check_script("one that fails", [two, "sys.stdin.missing"], signal.SIGCONT, 1)
+    pool = "with ProcessPoolExecutor(2) as pool: "
+    three = "third, last = pool.submit(os.getpid).result(), pool.submit(time.sleep, 100); print(pid, second.pid, third, flush=True); last.result()"
+    check_script("one with a pool", [pool + three], signal.SIGTERM, 143)
+    # The signal comes after the first process of the pool, which has nothing yet that ends these.
+    start = "ForkProcess.start = lambda self: (BaseProcess.start(self), print(pid, second.pid, self.pid, flush=True), os.kill(os.getpid(), 15))"
+    check_script("one that begins a pool", [start, pool + "pool.submit(time.sleep, 100).result()"], signal.SIGCONT, 143)
 
 
 @contextlib.contextmanager

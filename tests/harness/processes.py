@@ -1,10 +1,11 @@
 """A process that a script starts.
 
-SIGTERM ends a script that imports this by an exit of status 143, so that its blocks end too, and with them the processes that it started.
+SIGTERM ends a script that imports this by an exit of status 143, so that its blocks end too, and the processes that it has started.
 """
 
 import contextlib
 import os
+import pathlib
 import signal
 import subprocess
 import sys
@@ -13,9 +14,20 @@ SECONDS = 60
 TICKS = os.sysconf("SC_CLK_TCK")
 
 
+def own_processes():
+    """All processes that this one has started and not waited for, by whichever thread."""
+    for children in pathlib.Path("/proc/self/task").glob("*/children"):
+        with contextlib.suppress(FileNotFoundError):
+            yield from map(int, children.read_text(encoding="ascii").split())
+
+
 def end_by_sigterm(*_):
-    """Ends the script as a shell says of this signal. A second one would cut off what the first has begun to end."""
+    """Ends the script as a shell says of this signal. Its processes are killed before, since an exit waits for those of a pool. A second signal would
+    cut off what the first has begun to end."""
     signal.signal(signal.SIGTERM, signal.SIG_IGN)
+    for pid in own_processes():
+        with contextlib.suppress(ProcessLookupError):
+            os.kill(pid, signal.SIGKILL)
     sys.exit(128 + signal.SIGTERM)
 
 
