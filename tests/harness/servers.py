@@ -17,6 +17,7 @@ import urllib.request
 from .bounds import LOG_BYTES, held, number
 from .client import Client, connect
 from .processes import SECONDS, Process
+from .repository import ROOT
 
 LARGE = (1_048_576, 1_073_741_824)
 
