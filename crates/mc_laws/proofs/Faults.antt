@@ -1,4 +1,4 @@
--- Which fault of a storage line is told.
+-- Which fault of a storage line is reported.
 use Rattle.std.proofs.Common.{◌≡◌, ◌⊎◌, ⊎_elim, ℕ, ◌<◌, Bool, true, false, ◌||◌, nat_le, List, [], ◌∷◌, Option, Some, None, is_some, if◌then◌else◌, codes, refl, ap, ◌∙◌, true≢false, arith}
 use Rattle.std.proofs.lemmas.Bool.Decides.{nat_tests}
 use Rattle.mc_model.specs.declared.command.Verb.{Verb}

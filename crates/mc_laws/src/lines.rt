@@ -88,9 +88,10 @@ pub fn quit_and_version_are_administrators_lines_of_one_word()
 {}
 
 /// Of a storage line with a readable length and as many words as its command has, the first fault
-/// in this order is told: a malformed key, flags or exptime, which `noreply` doesn't keep quiet; an
-/// exptime other than zero, unless the command leaves the item's as it is; data that are too large.
-pub fn the_first_fault_of_a_storage_line_is_told()
+/// in this order is reported: a malformed key, flags or exptime, which `noreply` doesn't keep
+/// quiet; an exptime other than zero, unless the command leaves the item's as it is; data that are
+/// too large.
+pub fn the_first_fault_of_a_storage_line_is_reported()
     ensures format { (line key flags exptime size : List ℕ) (verb : Verb) (quiet : Bool)
         (long : ℕ) →
         words line ≡ verb_name verb ∷ key ∷ flags ∷ exptime ∷ size ∷ noreply_if quiet →

@@ -1,5 +1,5 @@
 use Rattle.mc_laws.proofs.Faults.{expiry_told, format_told, size_told}
-use Rattle.mc_laws.proofs.lines.the_first_fault_of_a_storage_line_is_told.Goals as goal
+use Rattle.mc_laws.proofs.lines.the_first_fault_of_a_storage_line_is_reported.Goals as goal
 
 pub returns-clause-format : goal.returns-clause-format
 returns-clause-format c = format_told
