@@ -37,7 +37,8 @@ PLACES_ABOVE = 4_096
 def preloading(library=None):
     """The environment of a server by this library's allocator, by the C library's for `none`, or by that of the defaults file."""
     environment = {name: value for name, value in os.environ.items() if name != "LD_PRELOAD"}
-    library = library or re.search(r"^LD_PRELOAD=(.*)$", (ROOT / "etc/wfmc.default").read_text(encoding="utf-8"), re.M)[1]
+    named = re.search(r"^LD_PRELOAD=(.*)$", (ROOT / "etc/wfmc.default").read_text(encoding="utf-8"), re.M)
+    library = library or (named[1] if named else "none")
     if library == "none":
         return environment
     environment["LD_PRELOAD"] = library

@@ -18,8 +18,8 @@ pub fn each_tenant_is_shown_its_own_table()
 
 /// An event that a worker needs is its own, and enabled, unless the worker has learned all places
 /// while its command is pending: it looks at a full log then. A worker that needs nothing has
-/// stopped, or is idle and has replayed all that it has learned. So a submit ends with its reply or
-/// at a full log.
+/// stopped, or is idle and has replayed all that it has learned. So where memory doesn't run out, a
+/// submit goes on until its worker is idle or the log is full.
 pub fn what_is_needed_is_enabled()
     ensures own { (core : CoreState) (number : ℕ) (event : Event) →
         needed core number ≡ Some event → actor event ≡ number }
