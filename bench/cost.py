@@ -11,7 +11,7 @@ import sys
 
 sys.path.insert(0, str(pathlib.Path(__file__).parents[1] / "tests"))
 from harness import preload, repository
-from harness.measures import print_figure
+from harness.measures import command_line, print_figure
 
 PROGRAM = repository.program("mc_stdin")
 KEY = b"key-of-16-bytes!"
@@ -31,6 +31,7 @@ STREAMS = {
 
 
 def main():
+    command_line(__doc__).parse_args()
     repository.enter(PROGRAM)
     with preload.library(preload.COUNT) as environment:
         for name, stream in STREAMS.items():

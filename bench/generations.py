@@ -22,7 +22,6 @@ crates/wfmc/out/wfmc, in some 30 minutes, with up to 4 GB of memory. With --gene
 1,048,576 places: the same without turn overs, as far as that log goes. Needs gcc, and memcached for the last two groups.
 """
 
-import argparse
 import os
 import pathlib
 import statistics
@@ -34,7 +33,7 @@ import time
 
 sys.path.insert(0, str(pathlib.Path(__file__).parents[1] / "tests"))
 from harness import repository
-from harness.measures import figures_of, gathered, print_figure, print_load, print_spread
+from harness.measures import command_line, figures_of, gathered, print_figure, print_load, print_spread
 from harness.servers import LARGE, Memcached, Server
 from wfmc import build_load
 
@@ -282,8 +281,8 @@ GROUPS = {name[5:]: show for name, show in vars(Bench).items() if name.startswit
 
 
 def words():
-    parser = argparse.ArgumentParser(description=__doc__.split("\n")[0])
-    parser.add_argument("program", nargs="?", default=repository.program("wfmc"))
+    parser = command_line(__doc__)
+    parser.add_argument("program", metavar="BINARY", nargs="?", default=repository.program("wfmc"))
     parser.add_argument("groups", nargs="*", metavar="GROUP")
     parser.add_argument("--logs", type=int, default=1_000, help="how many logs the group memory goes through")
     parser.add_argument("--seconds", type=int, default=60, help="how long the group seconds loads each server")

@@ -126,8 +126,8 @@ def kinds():
 
 
 def main():
+    runs = runs_wanted(__doc__, 5)
     repository.enter(PROGRAM)
-    runs = runs_wanted(5)
     print_load("start")
     distinct, few, many = keys(60000), keys(1000), keys(50000)
     loads = {

@@ -15,7 +15,6 @@ another library, and with --preload none by the C library's. Of three or more pr
 server has the others. Takes some minutes and up to 4 GB of memory; needs gcc, that library, and memcached unless told otherwise.
 """
 
-import argparse
 import contextlib
 import os
 import pathlib
@@ -29,7 +28,7 @@ sys.path.insert(0, str(pathlib.Path(__file__).parents[1] / "tests"))
 from harness import repository
 from harness.bounds import MEBIBYTE, held, number
 from harness.client import Client
-from harness.measures import figures_of, print_figure, print_load, print_spread
+from harness.measures import command_line, figures_of, print_figure, print_load, print_spread
 from harness.servers import LARGE, Memcached, Server, preloading
 from wfmc import build_load
 
@@ -215,9 +214,9 @@ def print_calm(name, runs, most):
 
 
 def main():
-    parser = argparse.ArgumentParser(description=__doc__, formatter_class=argparse.RawDescriptionHelpFormatter)
-    parser.add_argument("program", nargs="?", default=None)
-    parser.add_argument("cases", nargs="*")
+    parser = command_line(__doc__)
+    parser.add_argument("program", metavar="BINARY", nargs="?", default=None)
+    parser.add_argument("cases", metavar="CASE", nargs="*")
     parser.add_argument("--seconds", type=int, default=5)
     parser.add_argument("--runs", type=int, default=1)
     parser.add_argument("--calm", type=float, default=40)

@@ -20,17 +20,20 @@ import time
 sys.path.insert(0, str(pathlib.Path(__file__).parents[1] / "tests"))
 from harness import repository
 from harness.client import Client, late_reply
-from harness.measures import Probe, print_figure
+from harness.measures import Probe, command_line, print_figure
 from harness.servers import LARGE, Server
 
-PROGRAM = sys.argv[1] if len(sys.argv) > 1 else repository.program("wfmc")
+PARSER = command_line(__doc__)
+PARSER.add_argument("program", metavar="BINARY", nargs="?", default=repository.program("wfmc"))
+PARSER.add_argument("groups", metavar="GROUP", nargs="*")
+WORDS = PARSER.parse_args()
 MEBIBYTE = 1 << 20
 PLACES = ["--places", "1048576"]
 
 
 def serve(options=(), tenants=("a",), quotas=LARGE, **limits):
     """A started server whose workers are there."""
-    server = Server(PROGRAM, options, dict.fromkeys(tenants, quotas), **limits)
+    server = Server(WORDS.program, options, dict.fromkeys(tenants, quotas), **limits)
     if tenants and server.is_ready:
         with server.ended_on_failure():
             server.await_workers(tenants[0])
@@ -428,11 +431,10 @@ GROUPS = {name[5:]: show for name, show in list(globals().items()) if name.start
 
 
 def main():
-    repository.enter(PROGRAM)
-    unknown = [name for name in sys.argv[2:] if name not in GROUPS]
-    if unknown:
-        sys.exit(f"no group {unknown[0]}; there are {', '.join(GROUPS)}")
-    for name in sys.argv[2:] or GROUPS:
+    if unknown := [name for name in WORDS.groups if name not in GROUPS]:
+        PARSER.error(f"no group {unknown[0]}; there are {', '.join(GROUPS)}")
+    repository.enter(WORDS.program)
+    for name in WORDS.groups or GROUPS:
         GROUPS[name]()
 
 

@@ -16,7 +16,7 @@ from wfmc import PROGRAM, THREADS, build_load, load, shape_name, start
 
 sys.path.insert(0, str(pathlib.Path(__file__).parents[1] / "tests"))
 from harness import repository
-from harness.measures import print_figure, print_load
+from harness.measures import command_line, print_figure, print_load
 from harness.processes import Process
 
 SHAPES = [(50, 1, 900_000), (8, 32, 900_000)]
@@ -52,6 +52,7 @@ def show(name, lines):
 
 
 def main():
+    command_line(__doc__).parse_args()
     repository.enter(PROGRAM)
     repository.require("perf", "gcc")
     with tempfile.TemporaryDirectory() as folder:

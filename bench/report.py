@@ -10,11 +10,13 @@ import pathlib
 import sys
 
 sys.path.insert(0, str(pathlib.Path(__file__).parents[1] / "tests"))
-from harness.measures import figures_of, gathered, print_spread
+from harness.measures import command_line, figures_of, gathered, print_spread
 
 
 def main():
-    texts = [pathlib.Path(name).read_text() for name in sys.argv[1:]] or [sys.stdin.read()]
+    parser = command_line(__doc__)
+    parser.add_argument("files", metavar="FILE", nargs="*", type=pathlib.Path)
+    texts = [file.read_text() for file in parser.parse_args().files] or [sys.stdin.read()]
     values = gathered(figures_of(text) for text in texts)
     if not values:
         sys.exit("no measurements were read")

@@ -15,10 +15,9 @@ import time
 sys.path.insert(0, str(pathlib.Path(__file__).parents[1] / "tests"))
 from harness import repository
 from harness.client import connect
-from harness.measures import print_figure, print_load
+from harness.measures import command_line, print_figure, print_load
 from harness.servers import LARGE, METRICS, Memcached, Server
 
-PROGRAM = sys.argv[1] if len(sys.argv) > 1 else repository.program("wfmc")
 PLACES = 65_536
 OPTIONS = ("--places", str(PLACES), "--generations", "0", "--log-bytes", str(64 << 20), *METRICS)
 FEW, MANY = 100_000, 500_000
@@ -59,12 +58,15 @@ def bytes_an_item(server, port, size):
 
 
 def main():
-    repository.enter(PROGRAM)
+    parser = command_line(__doc__)
+    parser.add_argument("program", metavar="BINARY", nargs="?", default=repository.program("wfmc"))
+    program = parser.parse_args().program
+    repository.enter(program)
     repository.require("memcached")
     print_load("start")
     for size in (100, 1_000):
         for workers in (1, 2, 4):
-            with Server(PROGRAM, ["--workers", str(workers), *OPTIONS], {"a": LARGE}) as server:
+            with Server(program, ["--workers", str(workers), *OPTIONS], {"a": LARGE}) as server:
                 print_figure(f"{size} B: wfmc, {workers} workers: memory of an item", bytes_an_item(server, server.ports["a"], size), "bytes")
             with Memcached("-t", str(workers), "-m", "4096") as server:
                 print_figure(f"{size} B: memcached, {workers} threads: memory of an item", bytes_an_item(server, server.port, size), "bytes")

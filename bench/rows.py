@@ -11,7 +11,6 @@ faults a request. With --rows only rows whose names have WORD are measured. Need
 long data take up to 4 GB of memory.
 """
 
-import argparse
 import pathlib
 import subprocess
 import sys
@@ -19,7 +18,7 @@ import tempfile
 
 sys.path.insert(0, str(pathlib.Path(__file__).parents[1] / "tests"))
 from harness import repository
-from harness.measures import figures_of, gathered, print_load, print_spread
+from harness.measures import command_line, figures_of, gathered, print_load, print_spread
 from harness.servers import LARGE, Memcached, Server, preloading
 from wfmc import build_load
 
@@ -79,8 +78,8 @@ def run(program, which, threads, log, options, shape, seconds):
 
 
 def main():
-    parser = argparse.ArgumentParser()
-    parser.add_argument("runs", nargs="?", type=int, default=3)
+    parser = command_line(__doc__)
+    parser.add_argument("runs", metavar="RUNS", nargs="?", type=int, default=3)
     parser.add_argument("--seconds", type=int, default=3)
     parser.add_argument("--threads", type=int, nargs="+", default=[1, 2, 4])
     parser.add_argument("--rows", default="")

@@ -57,8 +57,8 @@ def seconds(listed):
 
 
 def main():
+    runs = runs_wanted(__doc__, 7)
     repository.enter(PROGRAM)
-    runs = runs_wanted(7)
     print_load("start")
     for kind, (workers, line_of) in KINDS.items():
         for part in (8, 4, 2, 1):

@@ -95,7 +95,7 @@ def measure(name, runs, stream, wanted, run):
 
 
 def main():
-    runs = runs_wanted(5)
+    runs = runs_wanted(__doc__, 5)
     repository.enter(PROGRAM)
     kinds = {"mc_stdin": from_file}
     for tool in ("socat", "memcached"):

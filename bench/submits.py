@@ -91,8 +91,8 @@ def print_costs(environment, name, words, task):
 
 
 def main():
+    runs, figures = runs_wanted(__doc__, 15), {name: [] for name in LOADS}
     repository.enter(PROGRAM)
-    runs, figures = runs_wanted(15), {name: [] for name in LOADS}
     print_load("start")
     for _ in range(runs):
         for name, load in LOADS.items():

@@ -99,7 +99,7 @@ def compare(program, folder, runs):
 
 
 def main():
-    runs = runs_wanted(5)
+    runs = runs_wanted(__doc__, 5)
     repository.enter(PROGRAM)
     repository.require("memcached", "gcc", "strace")
     with tempfile.TemporaryDirectory() as folder:

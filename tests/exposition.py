@@ -25,8 +25,9 @@ SECONDS = 60
 COMMANDS = "get gets set add replace append prepend cas delete incr decr flush_all".split()
 REFUSALS = ("unknown_command bad_format bad_block no_expiry line_too_long too_large no_room "
             "not_a_number bad_delta log_full out_of_memory").split()
-TENANTS = [("shop", 1), ("b-2_x", 2)]
-WORKERS = [(0, 0, 13), (1, 42, 14)]
+# Tenants and workers by their units, from 1 on: more of both than a server under test mostly has.
+TENANTS = ["shop", "b-2_x", *(f"t{unit}" for unit in range(3, 21))]
+WORKERS = range(16)
 LARGEST = 2 ** 64 - 1
 results = Results()
 check = results.check
@@ -38,6 +39,11 @@ def logic():
     return re.search(r'const LOGIC: &\[u8\] = b"([^"]*)";', source)[1]
 
 
+def times(unit, count):
+    """So many times a unit, or for every third unit a number as far below the largest."""
+    return unit * count if unit % 3 else LARGEST - unit * count
+
+
 def metric(name, help_text, kind, samples):
     """One metric; each sample is a list of labels, its value and what is put after the name."""
     lines = [f"# HELP {name} {help_text}", f"# TYPE {name} {kind}"]
@@ -47,14 +53,19 @@ def metric(name, help_text, kind, samples):
     return "".join(line + "\n" for line in lines)
 
 
-def of_tenants(name, help_text, kind, value):
-    return metric(name, help_text, kind, [([("tenant", tenant)], value(unit)) for tenant, unit in TENANTS])
+def of_tenants(name, help_text, kind, count):
+    return metric(name, help_text, kind, [([("tenant", tenant)], times(unit, count)) for unit, tenant in enumerate(TENANTS, 1)])
 
 
-def by_kind(name, help_text, label, kinds, value):
-    samples = [([("tenant", tenant), (label, kind)], value(unit, place))
-               for tenant, unit in TENANTS for place, kind in enumerate(kinds)]
+def by_kind(name, help_text, label, kinds, first):
+    """Counts of each tenant by kinds: of the first kind this many times its unit, of the second once more, and so on."""
+    samples = [([("tenant", tenant), (label, kind)], times(unit, count))
+               for unit, tenant in enumerate(TENANTS, 1) for count, kind in enumerate(kinds, first)]
     return metric(name, help_text, "counter", samples)
+
+
+def of_workers(name, help_text, count):
+    return metric(name, help_text, "gauge", [([("worker", number)], times(number + 1, count)) for number in WORKERS])
 
 
 def plain(name, help_text, value):
@@ -63,28 +74,23 @@ def plain(name, help_text, value):
 
 def metrics():
     return "".join([
-        of_tenants("wfmc_tenant_items", "Items that the tenant holds.", "gauge", lambda unit: 5 * unit),
-        of_tenants("wfmc_tenant_bytes", "Bytes of keys and data that the tenant holds.", "gauge", lambda unit: 600 * unit),
-        of_tenants("wfmc_tenant_quota_items", "Items that the tenant may hold.", "gauge", lambda unit: 7000 * unit),
-        of_tenants("wfmc_tenant_quota_bytes", "Bytes of keys and data that the tenant may hold.", "gauge",
-                   lambda unit: 80000 * unit),
-        by_kind("wfmc_tenant_commands_total", "Commands that were answered.", "command", COMMANDS,
-                lambda unit, place: unit * (place + 1)),
-        of_tenants("wfmc_tenant_hits_total", "Items that retrievals found.", "counter", lambda unit: LARGEST - unit),
-        of_tenants("wfmc_tenant_misses_total", "Keys of retrievals that had no item.", "counter", lambda unit: 4 * unit),
-        by_kind("wfmc_tenant_refusals_total", "Requests that were refused.", "refusal", REFUSALS,
-                lambda unit, place: unit * (place + 20)),
-        of_tenants("wfmc_tenant_connections", "Connections of the tenant.", "gauge", lambda unit: 9 * unit),
-        metric("wfmc_worker_lag_places", "Used places of the log that the worker has yet to replay.", "gauge",
-               [([("worker", number)], lag) for number, lag, _ in WORKERS]),
-        metric("wfmc_worker_connections", "Connections that the worker serves.", "gauge",
-               [([("worker", number)], count) for number, _, count in WORKERS]),
-        plain("wfmc_log_places", "Places of the log.", 65536),
-        plain("wfmc_log_used_places", "Places of the log that are used.", 1234),
-        plain("wfmc_log_bytes", "Bytes that the commands in the log keep.", 567890),
-        plain("wfmc_log_generation", "Which log is served, counted from 1.", 3),
+        of_tenants("wfmc_tenant_items", "Items that the tenant holds.", "gauge", 5),
+        of_tenants("wfmc_tenant_bytes", "Bytes of keys and data that the tenant holds.", "gauge", 600),
+        of_tenants("wfmc_tenant_quota_items", "Items that the tenant may hold.", "gauge", 7000),
+        of_tenants("wfmc_tenant_quota_bytes", "Bytes of keys and data that the tenant may hold.", "gauge", 80000),
+        by_kind("wfmc_tenant_commands_total", "Commands that were answered.", "command", COMMANDS, 1),
+        of_tenants("wfmc_tenant_hits_total", "Items that retrievals found.", "counter", 3),
+        of_tenants("wfmc_tenant_misses_total", "Keys of retrievals that had no item.", "counter", 4),
+        by_kind("wfmc_tenant_refusals_total", "Requests that were refused.", "refusal", REFUSALS, 20),
+        of_tenants("wfmc_tenant_connections", "Connections of the tenant.", "gauge", 9),
+        of_workers("wfmc_worker_lag_places", "Used places of the log that the worker has yet to replay.", 42),
+        of_workers("wfmc_worker_connections", "Connections that the worker serves.", 13),
+        plain("wfmc_log_places", "Places of the log.", LARGEST - 1234),
+        plain("wfmc_log_used_places", "Places of the log that are used.", LARGEST - 65536),
+        plain("wfmc_log_bytes", "Bytes that the commands in the log keep.", LARGEST - 567890),
+        plain("wfmc_log_generation", "Which log is served, counted from 1.", LARGEST - 2),
         metric("wfmc_turn_over_seconds", "Time from the end of a log to the beginning of the next.", "summary",
-               [([], "4321.098765", "_sum"), ([], 2, "_count")]),
+               [([], "9223372036854.098765", "_sum"), ([], LARGEST - 3, "_count")]),
         plain("process_resident_memory_bytes", "Resident memory of the process in bytes.", LARGEST),
         metric("wfmc_build_info", "The version that runs, and the logic that it is proved in.", "gauge",
                [([("version", "1.0.0"), ("logic", logic())], 1)]),
@@ -93,15 +99,16 @@ def metrics():
 
 def page():
     rows = "".join(
-        f"<tr><th>{name}" + "".join(f"<td>{number * unit}" for number in (5, 7000, 600, 80000, 9)) + "\n"
-        for name, unit in TENANTS)
+        f"<tr><th>{tenant}" + "".join(f"<td>{times(unit, count)}" for count in (5, 7000, 600, 80000, 9)) + "\n"
+        for unit, tenant in enumerate(TENANTS, 1))
+    log = "".join(f"<td>{LARGEST - below}" for below in (2, 65536, 1234, 567890, 3))
     return (
         '<!DOCTYPE html>\n<html lang="en">\n<meta charset="utf-8">\n<title>wfmc</title>\n'
         "<style>body{font:1em sans-serif;margin:2em}td,th{padding:.2em .8em;text-align:right}</style>\n"
         '<h1>wfmc</h1>\n<p>For Prometheus: <a href="/metrics">/metrics</a></p>\n<table>\n'
         "<tr><th>tenant<th>items<th>of<th>bytes<th>of<th>connections\n"
         + rows + "</table>\n<table>\n<tr><th>log<th>places used<th>of<th>bytes<th>turn overs\n<tr>"
-        "<td>3<td>1234<td>65536<td>567890<td>2\n</table>\n</html>\n")
+        + log + "\n</table>\n</html>\n")
 
 
 def response(status, fields, body=b"", version="1.1", shown=True):

@@ -9,10 +9,11 @@ For this many seconds (60) it runs rounds, each with a server and tenants of its
 - connections that are killed at any byte: what they received is right, and what they leave is what some first part of their stream gives;
 - a reader and a writer that are slow, clients that send without reading, hundreds of connects and closes;
 - and a steady client among them, whose longest wait is printed: above 10 seconds is a failure.
-After each round every descriptor has to be given back, and the processor to rest. Before the rounds: a load that is repeated leaves the memory
-where it was; more connections than there may be descriptors are served one after another; connections that came and went close no other tenant's,
-and those that come and go without end keep no other waiting; a quiet connection keeps nothing of its large replies; where the system refuses
-threads the server ends; and gets whose replies are far above the process's memory come whole, under a limit (RLIMIT_AS), next to another tenant.
+The tenants are in a random order with 40 idle ones. After each round every descriptor has to be given back, and the processor to rest. Before the
+rounds: a load that is repeated leaves the memory where it was; more connections than there may be descriptors are served one after another;
+connections that came and went close no other tenant's, and those that come and go without end keep no other waiting; a quiet connection keeps nothing
+of its large replies; where the system refuses threads the server ends; and gets whose replies are far above the process's memory come whole, under a
+limit (RLIMIT_AS), next to another tenant.
 
 With `--generations` the logs have 64 places and follow one another without an end, below 1, 2 and 4 workers by turns, or always as many as
 `--workers` says; there are four tenants, one of each of the first four kinds, and no reply is that the log is full. With `--log-bytes` the logs
@@ -39,7 +40,7 @@ from generators import StreamGenerator, limit_lines, mutated, pieces
 from harness import repository
 from harness.client import Exchange, connect, exchange, reset
 from harness.results import Results
-from harness.servers import ADMIN, ENDLESS_WORKERS, METRICS, Server, endless, most_of_endless
+from harness.servers import ADMIN, ENDLESS_WORKERS, METRICS, Server, among_idle, endless, most_of_endless
 from oracle import protocol
 from oracle.replies import NEVER_FULL, Replies
 from oracle.table import Table
@@ -288,6 +289,7 @@ class Round:
         # Names of which no mutation makes another's.
         self.tenants |= {name: chance.choice(QUOTAS) for name in LIMITED}
         self.tenants |= dict.fromkeys(("shared", "killed", "noise", "steady"), LARGE)
+        self.tenants = among_idle(chance, self.tenants)
         self.seeds = chance
 
     def calls(self, ports):
@@ -330,7 +332,7 @@ class Round:
 
 
 class EndlessRound(Round):
-    """A round over logs that follow one another, with four tenants."""
+    """A round over logs that follow one another, with four tenants that aren't idle."""
 
     noise = calm = "shared"
 
@@ -338,7 +340,8 @@ class EndlessRound(Round):
         self.program, self.workers = program, workers
         chance = random.Random(seed)
         self.options = [*ADMIN, "--workers", str(workers), *endless(log_bytes)]
-        self.tenants = {name: chance.choice(QUOTAS) for name in ("solo0", LIMITED[0])} | dict.fromkeys(("shared", "killed"), LARGE)
+        tenants = {name: chance.choice(QUOTAS) for name in ("solo0", LIMITED[0])} | dict.fromkeys(("shared", "killed"), LARGE)
+        self.tenants = among_idle(chance, tenants)
         if is_within:
             # An administrator may give the tenant that is limited as much as there can be.
             most = self.tenants | {LIMITED[0]: MOST}

@@ -173,7 +173,7 @@ class ListGenerator:
         pick = self.pick = self.random.choice
         places = pick((1, 2, 3, 5, 8, 20, 40, 100, 300, 300)) if self.random.random() < 0.99 else 1 << 20
         self.opening = [(pick((1, 1, 2, 2, 2, 3, 3, 4, 5, 16)), places)]
-        self.opening += [(pick(ITEMS), pick(ROOMS)) for _ in range(pick((1, 1, 1, 2, 2, 3) * 20 + (64,)))]
+        self.opening += [(pick(ITEMS), pick(ROOMS)) for _ in range(pick((1, 1, 1, 2, 2, 3) * 20 + (17, 40, 64)))]
         self.machine = Machine(self.opening, Counter())
         self.keys = self.random.sample(KEYS, pick((1, 1, 2, 3, 5)))
         self.commands = pick((COMMANDS, COMMANDS + (b"set",) * 4, self.random.sample(COMMANDS, 3) + [b"set"]))

@@ -2,16 +2,17 @@
 """Tests that each tenant's history is linearizable:
 linearizability.py [SECONDS] [BINARY] [--seed N] [--generations [--workers W] [--log-bytes B] [--within]] | --self-test.
 
-For this many seconds (60) it starts wfmc with 1 to 4 workers, or 16, and for each of several tenants clients at once, each a process with a
-connection of its own. They send commands over the same few keys, some ahead of replies, and note when each was sent and answered. Next to the
-clients of some tenants an administrator lowers and raises that tenant's quotas. Then linearizability_checker.py looks for one order of a tenant's commands that explains all replies and puts no command before another that was
-answered when it was sent, so a client reads its own writes too.
+For this many seconds (60) it starts wfmc with 1 to 4 workers, or 16, and for each of several tenants, among 40 idle ones, clients at once, each a
+process with a connection of its own. They send commands over the same few keys, some ahead of replies, and note when each was sent and answered. Next
+to the clients of some tenants an administrator lowers and raises that tenant's quotas. Then linearizability_checker.py looks for one order of a
+tenant's commands that explains all replies and puts no command before another that was answered when it was sent, so a client reads its own writes
+too.
 
 With `--generations` the logs have 64 places and follow one another without an end, below 1, 2 and 4 workers by turns, or always as many as
-`--workers` says; there are four tenants, each with an administrator and with a client whose connections are killed at any byte. One order
-explains the replies over all logs, and none is that the log is full. With `--log-bytes` the logs have 4,096 places, and are closed after this
-many bytes of commands, 4,000 for example; the server's metrics show that they were. With `--within` each server has no more address space
-than docs/OPERATING.md says that it takes ("One number").
+`--workers` says; there are four tenants beside the idle ones, each with an administrator and with a client whose connections are killed at any byte.
+One order explains the replies over all logs, and none is that the log is full. With `--log-bytes` the logs have 4,096 places, and are closed after
+this many bytes of commands, 4,000 for example; the server's metrics show that they were. With `--within` each server has no more address space than
+docs/OPERATING.md says that it takes ("One number").
 
 `--self-test` tests the checker instead: histories made wrong on purpose must be refused, and right ones accepted. The last line is
 'N passed, M failed'.
@@ -33,7 +34,7 @@ from harness import repository
 from harness.client import connect, peer_socket, reset
 from harness.processes import SECONDS, sockets
 from harness.results import Results
-from harness.servers import ADMIN, ENDLESS_WORKERS, METRICS, Server, endless, most_of_endless
+from harness.servers import ADMIN, ENDLESS_WORKERS, METRICS, Server, among_idle, endless, most_of_endless
 from linearizability_checker import Call
 from oracle import protocol
 from oracle.table import Table
@@ -242,7 +243,7 @@ def run_one_log(program, seed, _number):
     tenants = tenants_of(chance, chance.choice((1, 2, 3, 4)))
     # When the log becomes full is known to a tenant that is alone.
     places = chance.randrange(1, 500) if len(tenants) == 1 else 65_536
-    with Server(program, [*ADMIN, "--workers", str(workers), "--places", str(places)], tenants) as server:
+    with Server(program, [*ADMIN, "--workers", str(workers), "--places", str(places)], among_idle(chance, tenants)) as server:
         kinds = {
             name: [(Client, (server.ports[name],))] * chance.choice((3, 4, 5))
             + [(Administrator, (server.ports["admin"], name))] * chance.choice((0, 1, 1))
@@ -262,9 +263,11 @@ def run_endless(program, seed, number, workers, log_bytes, is_within):
     # server until its metrics are read.
     connections = sum(count + 1 + EPOCHS for count in alike.values()) + 1
     options = [*ADMIN, *METRICS, "--workers", str(workers), *endless(log_bytes), "--connections", str(connections)]
+    everyone = among_idle(chance, tenants)
     # An administrator may give a tenant as much as any.
-    address_space = most_of_endless(workers, dict.fromkeys(tenants, max(QUOTAS)), connections, log_bytes) if is_within else None
-    with Server(program, options, tenants, address_space=address_space) as server:
+    most = everyone | dict.fromkeys(tenants, max(QUOTAS))
+    address_space = most_of_endless(workers, most, connections, log_bytes) if is_within else None
+    with Server(program, options, everyone, address_space=address_space) as server:
         idle = server.connect(next(iter(tenants)))
         kinds = {
             name: [(Client, (server.ports[name],))] * alike[name]

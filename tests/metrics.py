@@ -1,11 +1,11 @@
 #!/usr/bin/env python3
 """Tests the metrics of wfmc, as built, over sockets on loopback: metrics.py [BINARY].
 
-What a scrape shows is held against what the clients know: items, bytes, quotas, connections, commands by kind, hits, misses and refusals of
-each of three tenants, which log is served, how many bytes it keeps, and whether a worker lags. Then scrapes as fast as they come while
-clients are answered as ever, more connections than there are places for, requests that are slow, huge or none, and one that does nothing,
-which is closed after ten seconds. And the words: an address that is taken, a tenant named metrics. A live scrape and the rules of etc/ are
-held against promtool (Debian's package prometheus; PROMTOOL names another) where it is installed, and it is said where it isn't.
+What a scrape shows is held against what the clients know: items, bytes, quotas, connections, commands by kind, hits, misses and refusals of each of
+three tenants behind idle ones, the connections of each of 16 workers, which log is served, how many bytes it keeps, and whether a worker lags. Then
+scrapes as fast as they come while clients are answered as ever, more connections than there are places for, requests that are slow, huge or none, and
+one that does nothing, which is closed after ten seconds. And the words: an address that is taken, a tenant named metrics. A live scrape and the rules
+of etc/ are held against promtool (Debian's package prometheus; PROMTOOL names another) where it is installed, and it is said where it isn't.
 Prints a line for each failure; the last line is 'N passed, M failed'.
 """
 
@@ -25,7 +25,7 @@ import time
 from harness import repository, servers
 from harness.client import connect
 from harness.results import Results
-from harness.servers import ADMIN, LARGE, METRICS, Server
+from harness.servers import ADMIN, LARGE, METRICS, Server, behind
 from oracle import protocol
 
 PROGRAM = sys.argv[1] if len(sys.argv) > 1 else repository.program("wfmc")
@@ -137,8 +137,9 @@ def lags_of(shown, workers):
 
 
 def check_numbers():
-    tenants = {"shop": (100, 10_000), "b-2_x": (20, 5_000), "third": (30, 7_000)}
-    with Server(PROGRAM, ("--workers", "3", "--places", "1000", *ADMIN, *METRICS), tenants) as server:
+    """Three tenants behind 61 idle ones, and 16 workers, of whom half have a connection each."""
+    tenants = behind(61, {"shop": (100, 10_000), "b-2_x": (20, 5_000), "third": (30, 7_000)})
+    with Server(PROGRAM, ("--workers", "16", "--places", "1000", *ADMIN, *METRICS), tenants) as server:
         check("the listeners in their order", list(server.ports) == [*tenants, "admin", "metrics"] and server.is_ready)
         nothing = {name: value for tenant, quotas in tenants.items() for name, value in tables(tenant, 0, 0, quotas, 0).items()}
         awaits(server, "nothing yet", {**nothing, "wfmc_log_used_places": 0, "wfmc_log_bytes": 0})
@@ -151,14 +152,16 @@ def check_numbers():
         for number, client in enumerate(thirds * 2):
             check("a third's set", client.line(f"set t{number} 0 0 5\r\n12345\r\n".encode()) == "STORED")
         third = tables("third", 4, 4 * 7, (30, 7_000), 2)
-        wanted = {**tables("shop", 20, 20 * 12, (100, 10_000), 5), **tables("b-2_x", 1, 4, (20, 5_000), 1), **third}
+        wanted = {**nothing, **tables("shop", 20, 20 * 12, (100, 10_000), 5), **tables("b-2_x", 1, 4, (20, 5_000), 1), **third}
         # Keys and data, and 64 more for each command, as --log-bytes counts them.
         kept = 20 * 12 + 4 + 4 * 7 + 25 * 64
         log = {"wfmc_log_used_places": 25, "wfmc_log_bytes": kept, "wfmc_log_places": 1000, "wfmc_log_generation": 1}
         shown = awaits(server, "what the clients know", {**wanted, **log})
-        lags = lags_of(shown, 3)
+        lags = lags_of(shown, 16)
         check("the lags", min(lags) == 0 and max(lags) <= 25, str(lags))
-        check("the workers' connections", sum(shown[f'wfmc_worker_connections{{worker="{worker}"}}'] for worker in range(3)) == 8, str(shown))
+        connections = [shown[f'wfmc_worker_connections{{worker="{worker}"}}'] for worker in range(16)]
+        # Connections are handed to the workers in turn.
+        check("the workers' connections", connections == [1] * 8 + [0] * 8, str(connections))
         check("the resident memory", 1 << 20 < shown["process_resident_memory_bytes"] < 1 << 32)
         with server.client("admin") as chief:
             check("an administrator", chief.line(b"limit b-2_x 7 99\r\n") == "OK")
@@ -173,7 +176,7 @@ def check_numbers():
 
 
 def check_pages(server):
-    """What is answered at other paths, and by other methods; and a scrape of these three tenants as a whole."""
+    """What is answered at other paths, and by other methods; and a scrape of these 64 tenants as a whole."""
     scraper = Scraper(server)
     status, fields, body = scraper.get("/")
     check("the page", status.endswith("200 OK") and fields["content-type"].startswith("text/html") and "<th>shop<td>19<td>100<td>228" in body, body)
@@ -181,7 +184,7 @@ def check_pages(server):
     scraper.send(b"POST /metrics HTTP/1.1\r\nHost: wfmc\r\nContent-Length: 0\r\n\r\n")
     check("another method", scraper.reply()[0] == "HTTP/1.1 405 Method Not Allowed")
     text = scraper.get()[2]
-    check("each kind of commands and refusals", text.count("wfmc_tenant_commands_total{") == 3 * 12 and text.count("wfmc_tenant_refusals_total{") == 3 * 11)
+    check("each kind of commands and refusals", text.count("wfmc_tenant_commands_total{") == 64 * 12 and text.count("wfmc_tenant_refusals_total{") == 64 * 11)
     check_by_promtool(text)
 
 
@@ -238,6 +241,7 @@ COUNTED = [
     ("get k\r\n", VALUE, "get", 1, None),
     ("get x k y\r\n", VALUE, "get", 3, None),
     ("gets x\r\n", "END\r\n", "gets", 1, None),
+    ("get" + " x" * 300 + "\r\n", "END\r\n", "get", 300, None),
     ("delete x\r\n", "NOT_FOUND\r\n", "delete", 0, None),
     ("set n 0 0 1\r\na\r\n", "STORED\r\n", "set", 0, None),
     ("incr n 1\r\n", "CLIENT_ERROR cannot increment or decrement non-numeric value\r\n", "incr", 0, "not_a_number"),
@@ -267,12 +271,12 @@ def tallies(tenant, rounds):
 
 
 def check_tallies():
-    """Commands, hits, misses and refusals of three tenants, over two workers and over logs that follow one another."""
+    """Commands, hits, misses and refusals of three tenants behind 40 idle ones, over two of five workers and over logs that follow one another."""
     sent, wanted = ("".join(row[at] for row in COUNTED).encode() for at in (0, 1))
-    tenants = {"a": (2, 1000), "b": (2, 1000), "c": (2, 1000)}
-    with Server(PROGRAM, ("--workers", "2", "--places", "60", "--generations", "0", *METRICS), tenants) as server:
+    tenants = behind(40, {"a": (2, 1000), "b": (2, 1000), "c": (2, 1000)})
+    with Server(PROGRAM, ("--workers", "5", "--places", "60", "--generations", "0", *METRICS), tenants) as server:
         awaits(server, "no request yet", {**tallies("a", 0), **tallies("b", 0), **tallies("c", 0)})
-        clients = [server.client(tenant, worker) for tenant in ("a", "a", "b") for worker in (0, 1)] + [server.client("c", 0)]
+        clients = [server.client(tenant, worker) for tenant in ("a", "a", "b") for worker in (0, 4)] + [server.client("c", 0)]
         for number, client in enumerate(clients * 3):
             reply = client.ask(sent, wanted[-30:])
             check("the replies that are counted", reply == wanted, f"{number}: {reply}")
@@ -280,7 +284,7 @@ def check_tallies():
         check("over several logs", shown["wfmc_log_generation"] >= 4, str(shown["wfmc_log_generation"]))
         for client in clients:
             client.close()
-        with server.client("b", 1) as client:
+        with server.client("b", 4) as client:
             check("another client's replies", client.ask(sent, wanted[-30:]) == wanted)
         awaits(server, "tallies after connections have ended", {**tallies("a", 12), **tallies("b", 7), **tallies("c", 3), of("connections", "a"): 0})
 

@@ -1,8 +1,8 @@
 #!/usr/bin/env python3
 """Tests how a tenant is moved from a running memcached, as docs/CLIENTS.md has it: Debian's memcached behind twemproxy, by the configuration on
 that page, tools/move_tenant.py while a client goes on, and the switch. Afterwards each item without an expiry is read through the proxy as memcached
-holds it, what was deleted is gone, and the other tenant has noticed nothing. Then what is refused, a client that goes on too long, and servers that
-aren't there.
+holds it, what was deleted is gone, and the other tenant has noticed nothing. Then a second try after one that was broken off, what is refused, a
+client that goes on too long, and servers that aren't there or are others than the tool takes.
 
 Usage: tests/moving.py [WFMC]. tools/moving.sh installs what it needs. The last line is 'N passed, M failed'.
 """
@@ -10,6 +10,7 @@ Usage: tests/moving.py [WFMC]. tools/moving.sh installs what it needs. The last 
 import pathlib
 import random
 import re
+import signal
 import subprocess
 import sys
 import tempfile
@@ -19,7 +20,7 @@ from harness import repository
 from harness.client import Client
 from harness.processes import SECONDS, Process
 from harness.results import Results
-from harness.servers import Memcached, Server, free_port, listens, wait_for
+from harness.servers import ADMIN, Memcached, Server, free_port, listens, wait_for
 
 sys.path.insert(0, str(repository.ROOT / "tools"))
 from move_tenant import Move
@@ -144,10 +145,13 @@ def check_move(source, server, proxy):
         check("an older item of the tenant", stored(shop, b"older", b"shop"))
     writer = Writer(proxy.port)
     writer.start()
-    with move(*address) as process:
-        said = [process.process.stdout.readline() for _ in range(4)]
+    status, output, errors = tried(*address, "--once")
+    check("a tenant that isn't new is refused", status == 2 and "with --flush all are removed first" in errors and "copied" not in output, errors)
+    with move(*address, "--flush") as process:
+        said = [process.process.stdout.readline() for _ in range(5)]
         check("it says what it copied", re.fullmatch(r"[1-9]\d* items copied, 0 deleted; 20 with an expiry are left out\n", said[2]), said)
-        check("and waits", said[3] == "Stop the clients, and then press Enter.\n", said)
+        check("and what is padded", said[3] == "1 are numbers with blanks behind them, which incr and decr refuse here\n", said)
+        check("and waits", said[4] == "Stop the clients, and then press Enter.\n", said)
         writer.enough.wait(SECONDS)
         proxy.stop()
         writer.join(SECONDS)
@@ -165,7 +169,7 @@ def check_move(source, server, proxy):
     check("through the proxy all is as it was", after == before, [(key, reply) for key, reply in after.items() if reply != before[key]][:3])
     check("some items had been deleted", any(before[key] == b"END\r\n" for key in KEYS))
     check("what had an expiry is left out", set(held(proxy.port, EXPIRING).values()) == {b"END\r\n"})
-    check("the tenant's older item", held(proxy.port, [b"older"])[b"older"] == b"VALUE older 0 4\r\nshop\r\nEND\r\n")
+    check("the tenant's older item is gone", held(proxy.port, [b"older"])[b"older"] == b"END\r\n")
     other = held(server.ports["blog"], [*names, b"only"])
     check("the other tenant's items", {key for key, reply in other.items() if reply != b"END\r\n"} == {b"key0", b"only"})
     check("and their data", other[b"key0"] == b"VALUE key0 0 4\r\nblog\r\nEND\r\n")
@@ -179,22 +183,49 @@ def check_move(source, server, proxy):
     proxy.stop()
 
 
-def check_refused(source, server):
-    """What can't be copied is counted, and older items under these keys are dropped."""
+def check_again(source, server):
+    """After a try that was broken off only one with --flush goes on, so that no item stays that memcached has deleted or lets expire since."""
+    address = [f"127.0.0.1:{port}" for port in (source.port, server.ports["again"])]
     with Client(source.port) as client:
         client.line(b"flush_all\r\n")
-        check("items are set there", all(stored(client, b"k%d" % at, b"x" * 500) for at in range(4)))
-        check("one with a key that the protocol forbids", stored(client, b"tab\tbed", b"x"))
+        check("items are set before the first try", all(stored(client, key, b"old") for key in (b"p", b"q", b"r")))
+        with move(*address) as process:
+            said = [process.process.stdout.readline() for _ in range(4)]
+            check("it waits for the second pass", said[3] == "Stop the clients, and then press Enter.\n", said)
+            status, _, errors = process.end(signal.SIGINT)
+        check("it is broken off", status == 130 and "begin again with --flush" in errors, errors)
+        check("one is deleted meanwhile", client.line(b"delete q\r\n") == "DELETED")
+        check("one has an expiry by now", stored(client, b"r", b"new", expiry=3_000))
+    status, _, errors = tried(*address, "--once")
+    check("without --flush it doesn't begin again", status == 2 and "with --flush all are removed first" in errors, errors)
+    status, output, errors = tried(*address, "--flush", "--once")
+    check("with it one item is copied", status == 0 and "\n1 items are the same at both\n" in output, (output, errors))
+    found = held(server.ports["again"], [b"p", b"q", b"r", b"-"])
+    check("and no other is there", [key for key, reply in found.items() if reply != b"END\r\n"] == [b"p"], found)
+
+
+def check_refused(source, server):
+    """What can't be copied is counted after each pass, and items that the first one has copied under these keys are dropped."""
     address = [f"127.0.0.1:{port}" for port in (source.port, server.ports["small"])]
-    with Client(server.ports["small"]) as small:
-        check("older items are set", all(stored(small, b"k%d" % at, b"old") for at in range(4)))
-    status, output, _ = tried(*address, "--once")
-    check("the status when some are refused", status == 1, output)
+    with Client(source.port) as client:
+        client.line(b"flush_all\r\n")
+        sizes = {b"k0": 500, b"k1": 500, b"k2": 1_200}
+        check("items are set there", all(stored(client, key, b"x" * size) for key, size in sizes.items()))
+        check("one with a key that the protocol forbids", stored(client, b"tab\tbed", b"x"))
+        with move(*address) as process:
+            said = [process.process.stdout.readline() for _ in range(6)]
+            check("what is copied", said[2] == "2 items copied, 0 deleted; 0 with an expiry are left out\n", said)
+            check("one is refused by the quota", "1 were refused: SERVER_ERROR out of memory storing object\n" in said[3:5], said)
+            check("one by its key", "1 were refused: the key has a character that memcached's protocol forbids\n" in said[3:5], said)
+            check("these are said before it waits", said[5] == "Stop the clients, and then press Enter.\n", said)
+            check("one grows", stored(client, b"k0", b"x" * 1_200))
+            output, _ = process.process.communicate("\n", timeout=SECONDS)
+    check("the status when some are refused", process.process.returncode == 1, output)
     check("by the quota", "2 were refused: SERVER_ERROR out of memory storing object\n" in output, output)
     check("by the key", "1 were refused: the key has a character that memcached's protocol forbids\n" in output, output)
-    check("the others are the same", "\n2 items are the same at both\n" in output, output)
-    found = held(server.ports["small"], [b"k%d" % at for at in range(4)])
-    check("no older item is left", sorted(len(reply) for reply in found.values()) == [5, 5, 523, 523], found)
+    check("the other is the same", "\n1 items are the same at both\n" in output, output)
+    found = held(server.ports["small"], list(sizes))
+    check("no older item is left", [len(reply) for reply in found.values()] == [5, 523, 5], found)
 
 
 def check_going_on(source, server):
@@ -216,17 +247,27 @@ def check_going_on(source, server):
 
 
 def check_stopped(source, server):
-    """Servers that aren't there, lists that aren't given, and no second pass."""
+    """Servers that aren't there or are others, and no second pass."""
     address = [f"127.0.0.1:{port}" for port in (source.port, server.ports["shop"])]
     nobody = f"127.0.0.1:{free_port()}"
     status, _, errors = tried(nobody, address[1])
     check("no memcached", status == 1 and f"{nobody}: Connection refused" in errors, errors)
     status, _, errors = tried(address[0], nobody)
     check("no wfmc", status == 1 and f"{nobody}: Connection refused" in errors, errors)
-    status, _, errors = tried(*address)
-    check("no second pass", status == 1 and "the second pass wasn't made" in errors, errors)
-    status, _, errors = tried(address[1], address[1])
-    check("no memcached's list", status == 1 and "answered ERROR when it was asked for its keys" in errors, errors)
+    status, _, errors = tried(f"[::1]:{free_port()}", address[1])
+    check("an IPv6 address is none that is unknown", status == 1 and "Name or service" not in errors, errors)
+    status, _, errors = tried(*address, "--flush")
+    check("no second pass", status == 1 and "the second pass wasn't made" in errors and "begin again with --flush" in errors, errors)
+    administrators = f"127.0.0.1:{server.ports['admin']}"
+    others = {
+        "FROM and TO are the same": (address[0], address[0]),
+        f"{address[1]} is no memcached 1.6: are FROM and TO swapped?": (address[1], address[0]),
+        f"localhost:{source.port} is a memcached, and no tenant of wfmc": (address[0], f"localhost:{source.port}"),
+        f"{administrators} is no tenant's listener": (address[0], administrators),
+    }
+    for why, words in others.items():
+        status, _, errors = tried(*words, "--flush", "--once")
+        check("others are refused", status == 2 and why in errors, errors)
     for word in ("here", "127.0.0.1:99999", "127.0.0.1:1e4"):
         status, _, errors = tried(word, address[1])
         check("no address", status == 2 and f"{word} is no HOST:PORT" in errors, errors)
@@ -236,11 +277,12 @@ def main():
     program = sys.argv[1] if len(sys.argv) > 1 else repository.program("wfmc")
     repository.enter(program)
     repository.require("memcached", "nutcracker")
-    tenants = {"shop": QUOTAS, "blog": QUOTAS, "small": (100, 1_100)}
-    options = ["--generations", "0", "--places", "1024"]
+    tenants = {"shop": QUOTAS, "blog": QUOTAS, "again": QUOTAS, "small": (100, 1_100)}
+    options = ["--generations", "0", "--places", "1024", *ADMIN]
     with tempfile.TemporaryDirectory() as folder, Memcached() as source, Server(program, options, tenants) as server, Proxy(folder) as proxy:
         server.addresses()
         check_move(source, server, proxy)
+        check_again(source, server)
         check_refused(source, server)
         check_going_on(source, server)
         check_stopped(source, server)

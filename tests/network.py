@@ -2,15 +2,16 @@
 """Tests wfmc, as built, over sockets on loopback: network.py [BINARY].
 
 Every golden test of mc_stdin that a server can answer (tests/rows/mc_stdin): its input over one connection, whole and, where it is short, a
-byte at a time, by 1 and by 4 workers (over several logs by 1); the bytes that come back must be the same. Then clients that others must not notice: one that closes
-in the middle of a block, one that resets, one that never reads, more connections than a worker takes, two tenants with the same key, 500
-commands of 8 clients at once, 64 tenants, all places of the longest log, and logs that follow one another once their places are taken, or their bytes,
-while clients are cut off around each turn over.
+byte at a time, by 1 worker for the first tenant and by 4 for the 17th (over several logs by 1 for the 17th); the bytes that come back must be
+the same. Then clients that others must not notice: one that closes in the middle of a block, one that resets, one that never reads, more
+connections than a worker takes, two tenants with the same key, 500 commands of 8 clients at once, 64 tenants, refused lines of the 17th with
+noreply and without it, 300 clients of the 17th that each send 100 KB at once, all places of the longest log, and logs that follow one another
+once their places are taken, or their bytes, while clients are cut off around each turn over.
 An administrator, whose quotas are in force at every worker, and whom no tenant locks out. Tenants for whom places are kept, and clients who
 are served by another worker where theirs has no place (network_places.py). And clients that nobody may forget: the process is stopped until
 many have connected, asked or left, and then goes on, while a worker is busy, or descriptors are scarce. Where no client is
 left, everything is given back, and no thread wakes. Clients that send more behind their last request, and read late, get all their replies;
-and where a wait for events fails (tests/fail_wait.c, which needs gcc), everything ends.
+and where a wait for events fails (tests/fail_wait.c, which needs gcc), everything ends. Connections have the system's keepalive.
 Prints a line for each failure; the last line is 'N passed, M failed'.
 """
 
@@ -34,9 +35,9 @@ from harness import preload, repository, servers
 from harness.answers import PATIENCE, answer, are_answered, ask, is_answered, is_answered_again, is_closed, is_ended
 from harness.client import exchange, late_reply, reset
 from harness.results import Results
-from harness.servers import ADMIN, METRICS, Server, free_port
+from harness.servers import ADMIN, METRICS, Server, behind, free_port
 from network_places import LARGE, waiting_room
-from oracle.protocol import BAD_FORMAT, NO_ROOM, VERSION
+from oracle.protocol import BAD_CHUNK, BAD_FORMAT, MOST_OF_DATA, NO_EXPIRY, NO_ROOM, STORAGE, STORED, TOO_LARGE, VERSION
 
 PROGRAM = sys.argv[1] if len(sys.argv) > 1 else repository.program("wfmc")
 SHORT = 4096
@@ -76,10 +77,10 @@ def golden_tests():
 def check_golden_tests():
     for name, options, quotas, sent, wanted in golden_tests():
         # Several workers leave the last places of a log to no command where another follows.
-        for workers in ("1",) if "--generations" in options else ("1", "4"):
+        for workers, idle in (("1", 16),) if "--generations" in options else (("1", 0), ("4", 16)):
             for step in [None, 1] if len(sent) <= SHORT else [None]:
-                with Server(PROGRAM, ["--workers", workers, *options], {"a": quotas}) as server:
-                    what = f"{name}, {workers} workers, {'whole' if step is None else 'by bytes'}"
+                with Server(PROGRAM, ["--workers", workers, *options], behind(idle, {"a": quotas})) as server:
+                    what = f"{name}, {workers} workers, tenant {idle + 1}, {'whole' if step is None else 'by bytes'}"
                     check(what, exchange(server.ports["a"], in_steps(sent, step)) == (wanted, "end"))
 
 
@@ -126,8 +127,15 @@ def check_tenants():
         check("the end", server.wait() == (0, b"done 5\n", b""))
 
 
+def storage_line(verb, last=b"", exptime=0, size=1, end=b"\r\n"):
+    """A storage line of this command with this last word, and its data with what ends them."""
+    unique = b" 1" if verb == b"cas" else b""
+    return b"%s k 0 %d %d%s%s\r\n%s%s" % (verb, exptime, size, unique, last, b"x" * size, end)
+
+
 def check_all_tenants():
-    """64 tenants at two workers: each reads what it has stored itself, and quotas go to the one that an administrator names."""
+    """64 tenants at two workers: each reads what it has stored itself, behind lines with noreply that are refused, and quotas go to the one that an
+    administrator names."""
     tenants = {f"t{number}": LARGE for number in range(64)}
     with Server(PROGRAM, [*ADMIN, "--workers", "2"], tenants) as server:
         clients = {name: server.connect(name) for name in tenants}
@@ -135,7 +143,7 @@ def check_all_tenants():
             client.sendall(b"set k 0 0 3\r\n%-3s\r\n" % name.encode())
         check("each of 64 tenants stores", are_answered(clients.values(), b"STORED\r\n"))
         for client in clients.values():
-            client.sendall(b"gets k\r\n")
+            client.sendall(storage_line(b"set", b" noreply", exptime=9) + storage_line(b"cas", b" noreply", exptime=60) + b"gets k\r\n")
         held = {name: is_answered(client, b"VALUE k 0 3 1\r\n%-3s\r\nEND\r\n" % name.encode()) for name, client in clients.items()}
         check("each of 64 tenants reads its own", all(held.values()), " ".join(name for name, right in held.items() if not right))
         check("quotas of the last one", answer(server, "admin", b"limit t63 1 100\r\nquit\r\n") == b"OK\r\n")
@@ -144,6 +152,37 @@ def check_all_tenants():
         held = {name: is_answered(client, NO_ROOM if name == "t63" else b"STORED\r\n") for name, client in clients.items()}
         check("they are its own", all(held.values()), " ".join(name for name, right in held.items() if not right))
         for client in clients.values():
+            client.close()
+
+
+def refused_lines():
+    """Storage lines of each command that are refused: the command, what is wrong with the line, and the refusal."""
+    for verb in STORAGE:
+        if verb not in (b"append", b"prepend"):
+            yield verb, {"exptime": 60}, NO_EXPIRY
+        yield verb, {"size": MOST_OF_DATA + 1}, TOO_LARGE
+        yield verb, {"end": b"xy"}, BAD_CHUNK
+
+
+def check_refused_lines():
+    """Of the 17th tenant's lines that are refused only those without noreply are answered, and none stores anything."""
+    with Server(PROGRAM, ["--workers", "1"], behind(16, {"a": LARGE})) as server:
+        for verb, wrong, refusal in refused_lines():
+            quiet, answered = (storage_line(verb, last, **wrong) for last in (b" noreply", b""))
+            replies = answer(server, "a", quiet + b"version\r\n" + answered + b"get k\r\n")
+            check(f"{verb.decode()} that is refused for its {', '.join(wrong)}", replies == VERSION + refusal + b"END\r\n", replies)
+
+
+def check_much_of_many():
+    """300 clients of the 17th tenant, who each send 100 KB of sets at once, and all of them there: each is answered, and the last one's item is kept."""
+    with Server(PROGRAM, [], behind(16, {"a": LARGE})) as server:
+        clients = [server.connect("a", PATIENCE) for _ in range(300)]
+        with server.stopped():
+            for number, client in enumerate(clients):
+                client.sendall(b"set k%d 0 0 4000\r\n%s\r\n" % (number, b"%04d" % number * 1_000) * 25)
+        check("300 clients that send much", are_answered(clients, STORED * 25))
+        check("the last one's item", answer(server, "a", b"get k299\r\n") == b"VALUE k299 0 4000\r\n%s\r\nEND\r\n" % (b"0299" * 1_000))
+        for client in clients:
             client.close()
 
 
@@ -445,6 +484,21 @@ def check_no_delay():
         check("a reply right after another", any(follows_soon(client) for _ in range(20)))
 
 
+def has_keepalive(client, port):
+    """Whether the server's end of a client's quiet connection has the timer of a keepalive, by the system's list of sockets (its number is 2)."""
+    ends = [f"0100007F:{number:04X}" for number in (port, client.getsockname()[1])]
+    sockets = (line.split() for line in pathlib.Path("/proc/net/tcp").read_text().splitlines())
+    return any(words[1:3] == ends and words[5].startswith("02:") for words in sockets)
+
+
+def check_keepalive():
+    """The system asks now and then whether a client that is quiet is still there."""
+    with Server(PROGRAM, [], {"a": LARGE}) as server:
+        with ask(server, "a") as client:
+            is_asked = is_answered(client) and any(has_keepalive(client, server.ports["a"]) or time.sleep(0.05) for _ in range(40))
+            check("a quiet client's host is asked for", is_asked)
+
+
 def check_client(number, replies):
     """A client of `check_together` reads what it wrote, and its numbers grow."""
     lines = (replies or b"").split(b"\r\n")
@@ -486,9 +540,9 @@ def check_whole_log():
 
 def check_logs_in_turn(workers, commands):
     """A client that asks nothing keeps its connection while another fills several logs, which take this many commands. The length at the end is
-    that of all logs."""
+    that of all logs. They are the 17th tenant's and the 18th's."""
     options = ["--workers", str(workers), "--places", "10", "--generations", "4", "--connections", "2"]
-    with Server(PROGRAM, options, {"a": LARGE, "b": LARGE}) as server:
+    with Server(PROGRAM, options, behind(16, {"a": LARGE, "b": LARGE})) as server:
         idle = ask(server, "b")
         check("a client before the first log is full", is_answered(idle))
         replies = answer(server, "a", b"set n 0 0 1\r\n0\r\n" + b"incr n 1\r\n" * 44 + b"quit\r\n")
@@ -542,17 +596,17 @@ def check_workers_and_places():
 
 
 def check_late_readers():
-    """Clients that ask for a large item, end their stream by `quit` or by a line that is too long, and send more."""
+    """Clients of the 17th tenant that ask for a large item, end their stream by `quit` or by a line that is too long, and send more."""
     block = b"k" * 400_000
     value = b"VALUE k 0 %d\r\n%s\r\nEND\r\n" % (len(block), block)
     endings = ("quit", b"quit\r\n", value), ("a line too long", b"", value + b"CLIENT_ERROR line too long\r\n")
     for name, last, wanted in endings:
-        behind = b"version\r\n" * 100 if last else b"a" * 100_000
-        with Server(PROGRAM, [], {"a": LARGE}) as server:
+        more = b"version\r\n" * 100 if last else b"a" * 100_000
+        with Server(PROGRAM, [], behind(16, {"a": LARGE})) as server:
             check("a large item", answer(server, "a", b"set k 0 0 %d\r\n%s\r\n" % (len(block), block)) == b"STORED\r\n")
             descriptors = settled_descriptors(server)
             with concurrent.futures.ThreadPoolExecutor(LATE_READERS) as pool:
-                ask_late = lambda _: late_reply(server.ports["a"], b"get k\r\n" + last, behind, PATIENCE)
+                ask_late = lambda _: late_reply(server.ports["a"], b"get k\r\n" + last, more, PATIENCE)
                 whole = sum(reply == (wanted, True) for reply in pool.map(ask_late, range(LATE_READERS)))
             check(f"replies before {name}, and more behind it", whole == LATE_READERS, f"{LATE_READERS - whole} of {LATE_READERS} were lost in part")
             check(f"nobody is left after {name}, and it rests", rests(server, descriptors))
@@ -620,6 +674,8 @@ def main():
     check_golden_tests()
     check_tenants()
     check_all_tenants()
+    check_refused_lines()
+    check_much_of_many()
     check_others_unnoticed()
     check_too_many()
     check_admin()
@@ -639,6 +695,7 @@ def main():
     check_last()
     check_early()
     check_no_delay()
+    check_keepalive()
     check_together()
     check_whole_log()
     # The last place of a log but the last is left to no command of one worker while there is another.

@@ -9,7 +9,7 @@ import resource
 import time
 
 from harness.answers import PATIENCE, answer, are_answered, ask, is_answered, is_answered_again, is_closed
-from harness.servers import ADMIN, Server, ending_of
+from harness.servers import ADMIN, Server, behind, ending_of
 from oracle.protocol import NO_ROOM
 
 LARGE = (1000, 100_000_000)
@@ -94,10 +94,20 @@ def check_reserve(program, check):
         check("another has its reserve at both", len(second) == 1_024, len(second))
         for client in first + second:
             client.close()
+    with Server(program, ["--workers", "1", "--reserve", "51"], behind(18, {"a": LARGE, "b": LARGE})) as server:
+        first = held_places(server, "a", 100)
+        check("the 19th tenant of 20 takes its reserve and what is left", len(first) == 55, len(first))
+        second = held_places(server, "b", 100)
+        check("the 20th has its reserve, and no more", len(second) == 51, len(second))
+        for client in first + second:
+            client.close()
     two = ("a=127.0.0.1:0,1,1", "b=127.0.0.1:0,1,1")
     check("more is kept than there is", ending_of(program, "--reserve", "513", *two) == (2, b"", b"wfmc: bad settings\n"))
     why = b"wfmc: --reserve 513: 2 times that is not from 0 to 1024\n"
     check("why", ending_of(program, "--check", "--reserve", "513", *two) == (2, b"", why))
+    twenty = [f"t{number}=127.0.0.1:0,1,1" for number in range(20)]
+    why_twenty = b"wfmc: --reserve 52: 20 times that is not from 0 to 1024\n"
+    check("more is kept for 20 than there is", ending_of(program, "--check", "--reserve", "52", *twenty) == (2, b"", why_twenty))
     check("all is kept", ending_of(program, "--check", "--reserve", "512", *two) == (0, b"wfmc: the settings can be served\n", b""))
     most = ending_of(program, "--check", "--reserve", str(2**64 - 1), *two)
     check("far more", most == (2, b"", why.replace(b"513", b"%d" % (2**64 - 1))), most)

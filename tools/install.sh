@@ -78,7 +78,7 @@ install_all() {
     unit >"$folder/unit"
     put 644 "$folder/unit" "$prefix/lib/systemd/system/wfmc.service"
     while IFS= read -r document; do put 644 "$document" "$documents/$document"; done < <(echo README.md; echo LICENSE; find docs -type f | sort)
-    # What the documents link to or name.
+    # What the documents link to or name, but the sources.
     for document in etc/grafana-wfmc.json etc/prometheus-wfmc.rules.yml examples/* tools/move_tenant.py tools/proxy.yml; do
         put 644 "$document" "$documents/$document"
     done

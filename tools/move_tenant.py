@@ -1,18 +1,23 @@
 #!/usr/bin/env python3
 """Copies the items of a running memcached into a tenant of wfmc.
 
-Usage: tools/move_tenant.py FROM TO [--once]. FROM and TO are HOST:PORT: a memcached 1.6, and the listener of the tenant.
+Usage: tools/move_tenant.py FROM TO [--flush] [--once]. FROM and TO are HOST:PORT, an IPv6 address in brackets: a memcached 1.6, and the
+listener of the tenant.
 
 It copies in two passes. The first one takes all items, while clients go on. Then it waits for a line on its standard input: stop the
 clients first, by stopping the proxy before memcached, or otherwise. The second pass takes what has changed since, by the items' uniques, and
 deletes what is gone; then both servers' items are compared, and memcached is asked once more which keys it holds, so that clients that went on
 show. With --once there is no first pass.
 
-An item with an expiry isn't copied, since it would never expire here; nor is one that wfmc refuses, for its size, its key or the quota. How
-many there were of each is printed, and how many numbers have blanks behind them, as memcached's decr leaves them: these are copied as they
-are, and are no numbers here. The tenant's own items stay, but under the keys that it copies. Nothing is changed at memcached.
+The tenant has to be one in which nothing was ever stored, or --flush removes all that it holds, before the first pass: it can't list its keys, so
+an item that an earlier try has copied, and that memcached has deleted since, would stay. After a try that was broken off, begin again with --flush.
 
-Status 0: all items without an expiry are at both. 1: some aren't, or a server doesn't answer. 2: wrong words.
+An item with an expiry isn't copied, since it would never expire here; nor is one that wfmc refuses, for its size, its key or the quota, and what
+an earlier pass has copied under its key is deleted. How many there were of each is printed after each pass, and how many numbers have blanks
+behind them, as memcached's decr leaves them: these are copied as they are, and are no numbers here. Nothing is changed at memcached.
+
+Status 0: all items without an expiry are at both. 1: some aren't, or a server doesn't answer. 2: wrong words, FROM is no memcached or TO no
+tenant, or something was stored in it before; nothing was changed then.
 """
 
 import argparse
@@ -31,8 +36,15 @@ PADDED = re.compile(rb"[0-9]+ +")
 NUMBER_BYTES = 20
 
 
+BEGIN_AGAIN = "the tenant may hold some of the items: begin again with --flush"
+
+
 class Stop(Exception):
     """Why it can't go on."""
+
+
+class Refused(Exception):
+    """Why it doesn't begin."""
 
 
 class Server:
@@ -42,7 +54,7 @@ class Server:
         host, _, port = address.rpartition(":")
         self.address = address
         try:
-            self.stream = socket.create_connection((host, int(port)), SECONDS)
+            self.stream = socket.create_connection((re.sub(r"^\[(.*)\]$", r"\1", host), int(port)), SECONDS)
         except OSError as error:
             raise Stop(f"{address}: {error.strerror or error}") from error
         self.replies = self.stream.makefile("rb")
@@ -73,6 +85,9 @@ class Server:
         """The replies to commands that are answered by one line each."""
         self.send(b"".join(commands))
         return [self.line() for _ in commands]
+
+    def reply_to(self, command):
+        return self.replies_to([command])[0].decode(errors="replace")
 
 
 Listed = collections.namedtuple("Listed", "key unique size expires")
@@ -196,42 +211,98 @@ class Move:
         return key in items and (items[key][0], items[key][2])
 
 
+def look_at(source, target):
+    """Refuses servers that aren't a memcached and a tenant, and says which versions they have. Nothing is changed at them."""
+    if source == target:
+        raise Refused("FROM and TO are the same")
+    for address, is_source in ((source, True), (target, False)):
+        server = Server(address)
+        version = server.reply_to(b"version\r\n")
+        if not version.startswith("VERSION "):
+            raise Refused(f"{address} is neither a memcached nor a tenant: it answered {version} when it was asked for its version")
+        # Memcached 1.6 alone has this one, which does nothing.
+        if (server.reply_to(b"mn\r\n") == "MN") != is_source:
+            raise Refused(f"{address} is {'no memcached 1.6' if is_source else 'a memcached, and no tenant of wfmc'}: are FROM and TO swapped?")
+        # A tenant refuses this key; an administrator's listener doesn't know the command.
+        if not is_source and server.reply_to(b"get \x7f\r\n") == "ERROR":
+            raise Refused(f"{address} is no tenant's listener: is it the administrators'?")
+        print(f"{address}: {version}", flush=True)
+
+
+def is_new(address):
+    """Whether nothing was ever stored in a tenant: its uniques are counted from 1. The quotas of any tenant have room for this item."""
+    server = Server(address)
+    reply = server.reply_to(b"add - 0 0 0\r\n\r\n")
+    if reply in ("NOT_STORED", "SERVER_ERROR out of memory storing object"):
+        return False
+    if reply != "STORED":
+        raise Stop(f"{address} answered {reply}")
+    _, unique, _ = server.items([b"-"]).get(b"-", (0, 0, b""))
+    server.reply_to(b"delete -\r\n")
+    return unique == 1
+
+
+def make_ready(address, flush):
+    """Sees that a tenant holds nothing."""
+    if flush:
+        if (reply := Server(address).reply_to(b"flush_all\r\n")) != "OK":
+            raise Stop(f"{address} answered {reply}")
+    elif not is_new(address):
+        raise Refused(f"the tenant at {address} has stored items before, and may hold some of them still: with --flush all are removed first")
+
+
 def report(move, copied, gone):
     print(f"{copied} items copied, {gone} deleted; {len(move.expiring)} with an expiry are left out", flush=True)
+    for reply, count in collections.Counter(move.refused.values()).items():
+        print(f"{count} were refused: {reply}", flush=True)
+    if move.padded:
+        print(f"{len(move.padded)} are numbers with blanks behind them, which incr and decr refuse here", flush=True)
 
 
-def main():
-    parser = argparse.ArgumentParser(usage="%(prog)s FROM TO [--once]", description="Copies the items of a running memcached into a tenant of wfmc.")
+def words_of_command_line():
+    parser = argparse.ArgumentParser(usage="%(prog)s FROM TO [--flush] [--once]", description=__doc__, formatter_class=argparse.RawDescriptionHelpFormatter)
     parser.add_argument("source", metavar="FROM", help="HOST:PORT of a memcached 1.6")
     parser.add_argument("target", metavar="TO", help="HOST:PORT of the tenant's listener")
+    parser.add_argument("--flush", action="store_true", help="first remove all that the tenant holds")
     parser.add_argument("--once", action="store_true", help="one pass; the clients were stopped before")
     words = parser.parse_args()
-    move = Move(words.source, words.target)
     for address in (words.source, words.target):
         if not re.fullmatch(r".+:\d{1,5}", address) or int(address.rpartition(":")[2]) > 65_535:
             parser.error(f"{address} is no HOST:PORT")
-        version = Server(address).replies_to([b"version\r\n"])[0].decode(errors="replace")
-        print(f"{address}: {version}", flush=True)
-    if not words.once:
+    return words
+
+
+def run(move, is_once):
+    """The passes and the comparison; the status."""
+    if not is_once:
         report(move, *move.copy())
         print("Stop the clients, and then press Enter.", flush=True)
         if not sys.stdin.readline():
             raise Stop("standard input has ended: the second pass wasn't made")
     report(move, *move.copy())
-    for reply, count in collections.Counter(move.refused.values()).items():
-        print(f"{count} were refused: {reply}")
-    if move.padded:
-        print(f"{len(move.padded)} are numbers with blanks behind them, which incr and decr refuse here")
     wrong = move.different()
-    told = f", {len(wrong)} differ, are gone from {words.source} or are new there: did clients go on?" if wrong else ""
+    told = f", {len(wrong)} differ, are gone from {move.source} or are new there: did clients go on?" if wrong else ""
     print(f"{len(move.uniques.keys() - wrong)} items are the same at both{told}")
     return 1 if move.refused or wrong else 0
 
 
-if __name__ == "__main__":
+def main():
+    words = words_of_command_line()
+    is_begun = False
     try:
-        sys.exit(main())
-    except (Stop, OSError) as error:
-        sys.exit(f"tools/move_tenant.py: {error}")
+        look_at(words.source, words.target)
+        make_ready(words.target, words.flush)
+        is_begun = True
+        return run(Move(words.source, words.target), words.once)
     except KeyboardInterrupt:
-        sys.exit(130)
+        status, why = 130, "broken off"
+    except Refused as error:
+        status, why = 2, error
+    except (Stop, OSError) as error:
+        status, why = 1, error
+    print(f"tools/move_tenant.py: {why}{f'; {BEGIN_AGAIN}' if is_begun else ''}", file=sys.stderr)
+    return status
+
+
+if __name__ == "__main__":
+    sys.exit(main())

@@ -1,6 +1,6 @@
 #!/usr/bin/env bash
 # Compiles wfmc or mc_stdin by rt try, which proves nothing, and runs it: wfmc for two tenants on loopback, until it is interrupted or an
-# hour has passed; mc_stdin on its first run. rt try adds checks at run time, which make the program slower, and passes on what it
+# hour has passed; mc_stdin on its first run. rt try adds checks at run time, which make the program some 100 times slower, and passes on what it
 # prints only when it has ended, so this script says what wfmc listens to.
 # Usage: tools/try.sh wfmc [PORT] | ports [PORT] | mc_stdin. The tenants are at PORT (11211) and the next one; `ports` looks whether these
 # are free, and nothing else.
@@ -63,6 +63,7 @@ try_wfmc() {
 listening shop 127.0.0.1:$shop
 listening blog 127.0.0.1:$blog
 ready after $SECONDS seconds. Nothing was proved: make serve proves wfmc, and serves the same tenants.
+With its checks at run time it is some 100 times slower: not for measuring.
 In another terminal: printf 'set a 0 0 1\\r\\nx\\r\\nget a\\r\\nquit\\r\\n' | nc 127.0.0.1 $shop
 An interrupt (Ctrl-C) ends it; else it ends after an hour.
 END

@@ -1,15 +1,22 @@
 """What was measured, as it is printed: a line for each measurement, of its name, its value and its unit with tabs between them."""
 
+import argparse
 import os
 import statistics
-import sys
 import threading
 import time
 
 
-def runs_wanted(usual):
-    """How many runs the first word of the command line asks for."""
-    return int(sys.argv[1]) if len(sys.argv) > 1 else usual
+def command_line(text):
+    """A parser of a script's words, whose --help prints this text as it is."""
+    return argparse.ArgumentParser(description=text, formatter_class=argparse.RawDescriptionHelpFormatter)
+
+
+def runs_wanted(text, usual):
+    """How many runs the first word of the command line asks for; the text is that of --help."""
+    parser = command_line(text)
+    parser.add_argument("runs", metavar="RUNS", nargs="?", type=int, default=usual)
+    return parser.parse_args().runs
 
 
 def print_figure(name, value, unit):

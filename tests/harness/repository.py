@@ -21,11 +21,12 @@ def kit():
 
 
 def enter(*programs):
-    """Goes to the root of the repository, and ends the script where one of these programs isn't built."""
+    """Goes to the root of the repository, and ends the script where one of these programs isn't built or there."""
     os.chdir(ROOT)
     for path in programs:
         if not os.access(path, os.X_OK):
-            sys.exit(f"{path} isn't built: make build builds the programs, and make bench crates/benches")
+            name = pathlib.Path(path).name
+            sys.exit(f"{path} isn't built: tools/prove.sh {name} proves and builds it" if path == program(name) else f"{path} is no program")
 
 
 def require(*tools):

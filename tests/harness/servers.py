@@ -21,6 +21,9 @@ from .repository import ROOT
 
 LARGE = (1_048_576, 1_073_741_824)
 
+# The quotas of a tenant whom nobody asks to keep anything.
+IDLE = (1, 1)
+
 # The options for an administrators' listener, whose port goes by the name "admin" then, as if it were a tenant's.
 ADMIN = ("--admin", "127.0.0.1:0")
 
@@ -51,6 +54,18 @@ def endless(log_bytes=None):
     """Options for logs that follow one another without an end: of 64 places each, or closed after this many bytes of commands."""
     size = ("--places", str(FEW_PLACES)) if log_bytes is None else ("--places", str(PLACES_ABOVE), "--log-bytes", str(log_bytes))
     return (*size, "--generations", "0")
+
+
+def behind(count, tenants):
+    """These tenants behind so many idle ones."""
+    return {f"idle{number}": IDLE for number in range(count)} | tenants
+
+
+def among_idle(chance, tenants):
+    """These tenants and 40 idle ones in a random order, in which most come after the 16th."""
+    together = list(behind(40, tenants).items())
+    chance.shuffle(together)
+    return dict(together)
 
 
 def most_of_endless(workers, tenants, connections, log_bytes=None):

@@ -36,6 +36,8 @@ DIFFERENCES = {
         "plain lines, times: set a 0 60 3 / get / get a": "b'CLIENT_ERROR expiry is not supported\\r\\nEND\\r\\n'",
         "plain lines, times: set a 0 -1 1 / x / get a": "b'CLIENT_ERROR expiry is not supported\\r\\nEND\\r\\n'",
         "plain lines, times: set a 0 9 1 noreply / x / get a": "b'END\\r\\n'",
+        "plain lines, times: add a 0 9 1 noreply / x / get a": "b'END\\r\\n'",
+        "plain lines, times: set a 0 0 1 / x / replace a 0 9 1 noreply / y / get a": "b'STORED\\r\\nVALUE a 0 1\\r\\nx\\r\\nEND\\r\\n'",
     },
     "`flush_all 10`": {
         "pymemcache, expiry: flush_all in ten seconds": REFUSED,
@@ -88,6 +90,10 @@ DIFFERENCES = {
     "the binary protocol": {
         "pylibmc, binary: set by the binary protocol": "Error: error 31 from memcached_set: (N) A TIMEOUT OCCURRED, time out,  host: N -> ./src/libmemcached/io.cc:220",
     },
+    "an HTTP request": {
+        "plain lines, http requests: POST / HTTP/1.1 /  / version": "b'ERROR\\r\\nERROR\\r\\nVERSION 1.0.0\\r\\n'",
+        "plain lines, http requests: nothing HTTP/": ERROR,
+    },
     "`version`": {
         "pymemcache, administration: version": "b'1.0.0'",
         "plain lines, limits: version": "b'VERSION 1.0.0\\r\\n'",
@@ -99,11 +105,13 @@ DIFFERENCES = {
         "plain lines, data of numbers: set n 0 0 3 / 007 / incr n 1 / get n": "b'STORED\\r\\n8\\r\\nVALUE n 0 1\\r\\n8\\r\\nEND\\r\\n'",
         "plain lines, data of numbers: set n 0 0 20 / 18446744073709551615 / incr n 1 / get n": "b'STORED\\r\\n0\\r\\nVALUE n 0 1\\r\\n0\\r\\nEND\\r\\n'",
     },
-    "data of `incr` and `decr` with blanks around the digits, a plus before them, or more than 20 of them": {
+    "data of `incr` and `decr` with blanks around the digits, a byte 0 behind them, a plus before them (before zero a minus too), or more than 20 of them": {
         "plain lines, data of numbers: set n 0 0 2 / 9  / incr n 1": NO_NUMBER,
         "plain lines, data of numbers: set n 0 0 2 /  9 / incr n 1": NO_NUMBER,
         "plain lines, data of numbers: set n 0 0 2 / +9 / decr n 1": NO_NUMBER,
         "plain lines, data of numbers: set n 0 0 3 / 9 x / incr n 1": NO_NUMBER,
+        "plain lines, data of numbers: set n 0 0 3 / 9<0>x / incr n 1": NO_NUMBER,
+        "plain lines, data of numbers: set n 0 0 2 / -0 / incr n 1": NO_NUMBER,
         "plain lines, data of numbers: set n 0 0 21 / 000000000000000000009 / incr n 1": NO_NUMBER,
     },
     "a `set` that is too large": {

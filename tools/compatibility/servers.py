@@ -6,7 +6,7 @@ import shutil
 import sys
 
 sys.path.insert(0, str(pathlib.Path(__file__).parents[2] / "tests"))
-from harness.servers import Memcached, Relay, Server
+from harness.servers import Memcached, Relay, Server, behind
 
 STORE = (1_000_000, 500_000_000)
 SMALL = (100, 8 * 1024 * 1024)
@@ -23,9 +23,10 @@ def all_of_memcached():
 
 @contextlib.contextmanager
 def all_of_wfmc(program, workers):
+    """The tenants stand behind 16 idle ones."""
     options = ["--workers", workers, "--places"]
     tenants = {"first": STORE, "second": STORE, "small": SMALL}
-    with Server(program, [*options, "1048576"], tenants) as server, Server(program, [*options, SHORT], {"short": STORE}) as short:
+    with Server(program, [*options, "1048576"], behind(16, tenants)) as server, Server(program, [*options, SHORT], behind(16, {"short": STORE})) as short:
         yield [*server.addresses(), *short.addresses(), "shared"]
 
 

@@ -128,6 +128,8 @@ def data_of_numbers(call, servers):
             "set n 0 0 2\r\n 9\r\nincr n 1\r\n",
             "set n 0 0 2\r\n+9\r\ndecr n 1\r\n",
             "set n 0 0 3\r\n9 x\r\nincr n 1\r\n",
+            "set n 0 0 3\r\n9\0x\r\nincr n 1\r\n",
+            "set n 0 0 2\r\n-0\r\nincr n 1\r\n",
             "set n 0 0 21\r\n000000000000000000009\r\nincr n 1\r\n",
             "set n 0 0 2\r\n9x\r\nincr n 1\r\n",
             "set n 0 0 2\r\n-9\r\nincr n 1\r\n",
@@ -154,6 +156,9 @@ def times(call, servers):
             "set a 0 60 3\r\nget\r\nget a\r\n",
             "set a 0 -1 1\r\nx\r\nget a\r\n",
             "set a 0 9 1 noreply\r\nx\r\nget a\r\n",
+            "add a 0 9 1 noreply\r\nx\r\nget a\r\n",
+            "set a 0 0 1\r\nx\r\nreplace a 0 9 1 noreply\r\ny\r\nget a\r\n",
+            "cas a 0 60 1 1 noreply\r\ny\r\nget a\r\n",
             "delete a 1\r\n",
             "flush_all 10\r\n",
             "flush_all 10 noreply\r\n",
@@ -167,9 +172,19 @@ def other_commands(call, servers):
     lines(call, servers, [f"{name}\r\n" for name in names])
 
 
+@case()
+def http_requests(call, servers):
+    lines(call, servers, ["POST / HTTP/1.1\r\n\r\nversion\r\n", "nothing HTTP/\r\n"])
+
+
 def half(name):
     """A line of this command with more than half of the largest data."""
     return name + b" a 0 0 600000\r\n" + b"x" * 600000 + b"\r\n"
+
+
+def too_large(name):
+    """A line of this command without a reply, with a byte more than the largest data."""
+    return name + b" a 0 0 1048577" + b" 1" * (name == b"cas") + b" noreply\r\n" + b"x" * 1048577 + b"\r\n"
 
 
 @case()
@@ -181,6 +196,8 @@ def limits(call, servers):
     call("1 MiB and a byte", talk, first, b"set a 0 0 1048577\r\n" + b"x" * 1048577 + b"\r\nget b\r\n")
     for name in ("append", "prepend"):
         call(f"{'an' if name == 'append' else 'a'} {name} that grows too large", talk, first, half(b"set") + half(name.encode()))
+    for name in ("set", "add", "replace", "append", "prepend", "cas"):
+        call(f"{name} of 1 MiB and a byte without a reply", talk, first, too_large(name.encode()) + b"get a\r\n")
     call("a length above 32 bits", talk, first, b"set a 0 0 99999999999\r\nget b\r\n")
     call("a get of 100 keys", talk, first, b"set k7 0 0 1\r\nx\r\nget " + b" ".join(b"k%d" % at for at in range(100)) + b"\r\n")
     call("version", talk, first, b"version\r\n")

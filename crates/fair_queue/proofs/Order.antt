@@ -24,7 +24,7 @@ waits_last old new flow key within is =
     ap (λ state. (flow_at state flow).ready) is ∙ ap (λ it. it.ready) (get_or-set_same old.flows flow _ idle within)
 
 -- once a key came, it is one more at its flow's end, and the other flows are as they were
-after_push : (old new : QueueState) (flow key : ℕ) → flow < length old.flows → IsPushed flow key old new → IsFair old →
+pub after_push : (old new : QueueState) (flow key : ℕ) → flow < length old.flows → IsPushed flow key old new → IsFair old →
     IsFair new × ((number : ℕ) → (flow_at new number).ready ≡ (flow_at old number).ready ++ cond (nat_eq flow number) (key ∷ []) [])
 after_push old new flow key within is fair =
     let into = takes_in old new flow key is in (

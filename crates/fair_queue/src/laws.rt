@@ -1,7 +1,7 @@
 //! What the calls of a queue come to, however they follow one another.
-ghost use Rattle.std.specs.Prelude.{◌≡◌, ℕ, ◌+◌, ◌-◌, ◌<◌, ◌≤◌};
+ghost use Rattle.std.specs.Prelude.{◌≡◌, ℕ, ◌+◌, ◌-◌, ◌<◌, ◌≤◌, length};
 ghost use Rattle.fair_queue.specs.Fair.{GivesInOrder, IsGivenAfterThoseAhead, MovesUp, WaitsForOneQuantumEach, WaitsForOneQuantumPerKey};
-ghost use Rattle.fair_queue.specs.Turns.{renewed};
+ghost use Rattle.fair_queue.specs.Turns.{Charges, GivesFirst, IsFair, IsPushed, QueueState, renewed};
 
 /// While something waits in a flow and the flow gives nothing, each other flow is charged at most a
 /// quantum and what the dearest key costs, of those that are given meanwhile and the one that was
@@ -30,6 +30,16 @@ pub fn keys_are_given_in_their_order()
     ensures order { GivesInOrder }
     ensures place { MovesUp }
     ensures given { IsGivenAfterThoseAhead }
+{}
+
+/// A queue that is fair stays so as keys come, costs are charged and keys are given.
+pub fn a_fair_queue_stays_fair()
+    ensures comes { (flow key : ℕ) (old new : QueueState) → flow < length old.flows →
+        IsPushed flow key old new → IsFair old → IsFair new }
+    ensures charged { (spent : ℕ) (old new : QueueState) → Charges spent old new →
+        IsFair old → IsFair new }
+    ensures given { (flow key : ℕ) (old new : QueueState) → GivesFirst flow key old new →
+        IsFair old → IsFair new }
 {}
 
 /// What a flow took beyond its quantum in one turn is taken off the next one's, of which at least 1

@@ -1,10 +1,11 @@
 //! A connection.
-ghost use Rattle.std.specs.Prelude.{◌≡◌, [], false, length, IfOk, IsOkUnless};
+ghost use Rattle.std.specs.Prelude.{◌≡◌, ◌↔◌, [], false, length, IfOk, IsOkUnless, IsTrue};
 ghost use Rattle.mc_counters.specs.Tallied.{capped};
 ghost use Rattle.mc_model.specs.declared.fault.Fault.TheVariants as Fault;
 ghost use Rattle.mc_read.specs.Reading.{Kept};
 ghost use Rattle.mc_conn.specs.declared.conn.Role.TheVariants as Role;
 ghost use Rattle.mc_conn.specs.Held.{nothing_held, speaker_of};
+ghost use Rattle.mc_conn.specs.Owed.{IsAmong};
 ghost use Rattle.mc_conn.specs.Turn.{holding_of, queue_of};
 
 use crate::queue::Queue;
@@ -38,6 +39,16 @@ impl Role {
         match self {
             Role::Tenant(tenant) => Ok(Role::Tenant(*tenant)),
             Role::Admin(names) => Ok(Role::Admin(names.share()?)),
+        }
+    }
+
+    /// Returns whether a log of this many tenants has the role.
+    pub fn is_among(&self, tenants: usize) -> bool
+        ensures { IsTrue result ↔ IsAmong self.now tenants }
+    {
+        match self {
+            Role::Tenant(tenant) => usize::from(tenant.number()) < tenants,
+            Role::Admin(names) => names.len() == tenants,
         }
     }
 

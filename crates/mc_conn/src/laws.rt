@@ -83,8 +83,7 @@ pub fn logs_of_a_worker_alone_add_up()
         IsAloneOver limits base places worker →
         Owes worker (Tenant 0) first_mark requests bytes to →
         bytes ≡ owed_after limits [] (length base + places) base requests }
-    // What is owed for requests and then for others is owed for the others after the first ones'
-    // commands.
+    // What is owed for further requests is owed for them after the commands of the first ones.
     ensures through { (limits : Limits) (total : ℕ) (applied : List Command)
         (first second : List Request) → length applied + length (commands_of first) ≤ total →
         owed_after limits [] total applied (first ++ second)
@@ -98,8 +97,7 @@ pub fn turns_add_up()
     ensures through { (a b c : Scene) → Takes a b → Takes b c → Takes a c }
     ensures stops { (fault : Fault) (a b c : Scene) → Takes a b → Stops b c fault →
         Stops a c fault }
-    // So do turns that pull late, if what is done after them only sends, and the worker goes on
-    // meanwhile, as `Takes` and `Stops` say.
+    // So do turns that pull late, if what follows only sends and the worker goes on meanwhile.
     ensures late { (a b c : Scene) → Takes a b → PullsLate a b → PullsLate b c →
         Continues b.worker c.worker → (more : List ℕ) →
         Pushes b.streams.output c.streams.output more →

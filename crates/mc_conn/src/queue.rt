@@ -34,7 +34,7 @@ const SHORT_RUN_BYTES: usize = SHARED_BYTES;
 /// No memory holds more bytes than this in runs.
 const MOST_IN_RUNS: usize = usize::MAX / 2;
 
-/// So many own bytes, and the run behind them.
+/// This many own bytes, and the run after them.
 #[derive(Drop)]
 struct Part {
     own: usize,

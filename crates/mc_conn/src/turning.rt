@@ -169,15 +169,13 @@ impl Conn {
         tally: &mut Tally,
     ) -> Result<State, Fault>
         requires role { FitsLog self.old.role worker.old }
-        // What was sent and is queued then is what was queued and what is owed for the requests
-        // that were taken; after a fault, what was sent is a prefix of that.
+        // What was sent and is queued is what was queued and is owed; after a fault, a prefix.
         ensures outcome { self.old.is_closed ≡ false → MatchResult result
             (Turns (scene self.old worker.old (both (I.tells input.old) (O.tells output.old)))
             (scene self.new worker.new (both (I.tells input.new) (O.tells output.new))))
             (Stops (scene self.old worker.old (both (I.tells input.old) (O.tells output.old)))
             (scene self.new worker.new (both (I.tells input.new) (O.tells output.new)))) }
-        // It pulls at most once, and only after what had come before was answered, unless the
-        // output took no more; and never while more than `QUEUE_BYTES` are queued.
+        // It pulls at most once, after what came before was answered unless the output is full.
         ensures pulls { Pulls
             (scene self.old worker.old (both (I.tells input.old) (O.tells output.old)))
             (scene self.new worker.new (both (I.tells input.new) (O.tells output.new))) }
@@ -186,8 +184,7 @@ impl Conn {
         ensures takes_all { IfOk result (λ state. state ≢ State.Full) }
         // It is still the same client's, on the same log.
         ensures same { (self.new.role ≡ self.old.role) × (worker.new.log ≡ worker.old.log) }
-        // The tally counts the requests that got a reply, besides what it counted before; and where
-        // memory ran out the refusal that was sent about it.
+        // The tally counts the requests that got a reply too, and the refusal if memory ran out.
         ensures tally { MatchResult result
             (λ _. HasCounted self.old.past self.new.past tally.old tally.new)
             (HasCountedTo self.old.past self.new.past tally.old tally.new) }
@@ -213,8 +210,7 @@ impl Conn {
         tally: &mut Tally,
     ) -> Result<State, Fault>
         requires role { FitsLog self.old.role worker.old }
-        // As for `turn`; and no request was logged once the worker's log was closing, whether or
-        // not a fault ended the turn.
+        // As for `turn`; and with a fault or without, none was logged once the log was closing.
         ensures outcome { self.old.is_closed ≡ false → MatchResult result
             (TurnsUntil (scene self.old worker.old (both (I.tells input.old) (O.tells output.old)))
             (scene self.new worker.new (both (I.tells input.new) (O.tells output.new))))

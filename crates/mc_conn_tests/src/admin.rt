@@ -1,4 +1,4 @@
-//! An administrator's connection beside a tenant's, over two workers of one log.
+//! An administrator's connection next to a tenant's, over two workers of one log.
 use crate::acts::Act;
 use crate::lines::{Client, Wire};
 use crate::pairs::both_play;

@@ -1,11 +1,11 @@
 //! A connection with its worker and log, and with an input and an output in memory.
-ghost use Rattle.std.specs.Prelude.{◌≡◌, ℕ, Some, slice_get, IfOk, IsTrue};
-ghost use Rattle.mc_conn.specs.Owed.{FitsLog, IsAmong};
+ghost use Rattle.std.specs.Prelude.{◌≡◌, ℕ, Some, slice_get, IfOk};
+ghost use Rattle.mc_conn.specs.Owed.{FitsLog};
 ghost use Rattle.uc_log.specs.Passes.{IsUnusedPass};
 
 use crate::acts::Act;
 use crate::logs::{both_passes, opened};
-use mc_conn::{Conn, PULL_BYTES, Role, State};
+use mc_conn::{Conn, PULL_BYTES, State};
 use mc_counters::Tally;
 use mc_model::{Fault, Limits, TenantId};
 use mc_stream::{Input, InputStep, MemoryInput, MemoryOutput, Output, OutputStep, Pull, Push};
@@ -84,16 +84,6 @@ pub(crate) struct Line<'a> {
     ghost same: { worker.log.now ≡ log.now },
 }
 
-/// Returns whether a role fits a log with this many tenants.
-fn is_among(role: &Role, tenants: usize) -> bool
-    ensures { IsTrue result → IsAmong role.now tenants }
-{
-    match role {
-        Role::Tenant(tenant) => usize::from(tenant.number()) < tenants,
-        Role::Admin(names) => names.len() == tenants,
-    }
-}
-
 /// Makes a turn, and promises only that the role and the worker's log stay the same.
 fn turn(wire: &mut Wire, worker: &mut Worker<'_>) -> Result<State, Fault>
     requires { FitsLog wire.old.conn.role worker.old }
@@ -138,7 +128,8 @@ impl<'a> Line<'a> {
 
     /// Makes a turn, if the line's role fits the log.
     pub(crate) fn turn(&mut self) -> Result<State, Fault> {
-        if !is_among(self.wire.conn.role(), self.log.settings().tenants().len()) {
+        let tenants = self.log.settings().tenants().len();
+        if !self.wire.conn.role().is_among(tenants) {
             return Err(Fault::BadEvent);
         }
         turn(&mut self.wire, &mut self.worker)
@@ -146,7 +137,8 @@ impl<'a> Line<'a> {
 
     /// Makes a turn that leaves commands to the next log, if the line's role fits the log.
     pub(crate) fn turn_until(&mut self) -> Result<State, Fault> {
-        if !is_among(self.wire.conn.role(), self.log.settings().tenants().len()) {
+        let tenants = self.log.settings().tenants().len();
+        if !self.wire.conn.role().is_among(tenants) {
             return Err(Fault::BadEvent);
         }
         turn_until(&mut self.wire, &mut self.worker)

@@ -30,7 +30,7 @@ false_stays (x ∷ items) zero (suc place) short is = is
 false_stays (x ∷ items) (suc key) zero short is = is
 false_stays (x ∷ items) (suc key) (suc place) short is = false_stays items key place short is
 
-with_false : (noted : Option Bool) → short_with noted false ≡ false
+pub with_false : (noted : Option Bool) → short_with noted false ≡ false
 with_false None = refl
 with_false (Some true) = refl
 with_false (Some false) = refl

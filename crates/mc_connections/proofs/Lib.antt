@@ -3,11 +3,13 @@ pub mod Comings
 pub mod Counts
 pub mod EachAnswered
 pub mod Lives
+pub mod MoreToDo
 pub mod Numbers
 pub mod Rounds
 pub mod SeenInOrder
 pub mod Servings
 pub mod Sharing
+pub mod StaysFair
 pub mod Turning
 pub mod Workings
 pub mod Tallied

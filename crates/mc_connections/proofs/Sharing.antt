@@ -18,17 +18,17 @@ cond_few true cost most few = few
 cond_few false cost most few = omega arith
 
 -- a key came into a flow, or nothing changed
-abbrev CameOrStayed : QueueState → QueueState → Type 0
+abbrev pub CameOrStayed : QueueState → QueueState → Type 0
 CameOrStayed old new = ((flow : ℕ) × (key : ℕ) × (flow < length old.flows) × IsPushed flow key old new) ⊎ (new ≡ old)
 
-came_to_wait : (tenant : Option ℕ) (key : ℕ) (old new : Waiting) → 0 < length old.queue.flows → ComesToWait tenant key old new → CameOrStayed old.queue new.queue
+pub came_to_wait : (tenant : Option ℕ) (key : ℕ) (old new : Waiting) → 0 < length old.queue.flows → ComesToWait tenant key old new → CameOrStayed old.queue new.queue
 came_to_wait tenant key old new some waits =
     ⊎_elim
     (λ pushed. inl (flow_of (length old.queue.flows) tenant, key, omega (arith, some), pushed.0))
     (λ stays. inr stays.0)
     waits
 
-waited_on : (state : State) (tenant : Option ℕ) (key : ℕ) (old new : Waiting) → 0 < length old.queue.flows → WaitsOn state tenant key old new → CameOrStayed old.queue new.queue
+pub waited_on : (state : State) (tenant : Option ℕ) (key : ℕ) (old new : Waiting) → 0 < length old.queue.flows → WaitsOn state tenant key old new → CameOrStayed old.queue new.queue
 waited_on Busy tenant key old new some waits = came_to_wait tenant key old new some waits.0
 waited_on Full tenant key old new some waits = came_to_wait tenant key old new some waits.0
 waited_on Idle tenant key old new some waits = inr waits.0

@@ -102,7 +102,7 @@ fn serve(slot: &mut Option<ClosingStream>, buffer: &mut [u8; PULL_BYTES]) {
 #[derive(Drop)]
 pub struct Closing {
     streams: Vec<Option<ClosingStream>>,
-    // The place of the next stream, where the oldest is if there are `MOST_CLOSING`.
+    // The place of the next stream if none is free.
     next: usize,
     // Whether a stream isn't registered yet.
     has_new: bool,
@@ -126,12 +126,13 @@ impl Closing {
         })
     }
 
+    /// Returns whether no stream is closing.
     pub fn is_empty(&self) -> bool {
         self.streams.iter().all(|stream| stream.is_none())
     }
 
     /// Shuts down a stream's sending side, and keeps it until its peer ends it, unless that has
-    /// ended already. If there are `MOST_CLOSING` already the oldest is closed.
+    /// ended already. If `MOST_CLOSING` are kept already, one of them is closed.
     pub(crate) fn keep(&mut self, stream: TcpStream, buffer: &mut [u8; PULL_BYTES]) {
         let mut closing = ClosingStream {
             stream,
@@ -144,10 +145,13 @@ impl Closing {
         if closing.stream.shutdown(Shutdown::Write).is_err() {
             return;
         }
-        if let Some(slot) = self.streams.get_mut(self.next) {
+        let free = self.streams.iter().position(|stream| stream.is_none());
+        if let Some(slot) = self.streams.get_mut(free.unwrap_or(self.next)) {
             *slot = Some(closing);
         }
-        self.next = (self.next + 1) % MOST_CLOSING;
+        if free.is_none() {
+            self.next = (self.next + 1) % MOST_CLOSING;
+        }
         self.has_new = true;
     }
 

@@ -13,7 +13,7 @@ ghost use Rattle.uc_worker.specs.Worker.{tenants_of};
 use crate::arrival::{Admission, Arrival};
 use crate::closing::Closing;
 use crate::connection::Connection;
-use crate::connections::{Connections, is_among};
+use crate::connections::Connections;
 use crate::pace::{ALONE, Pace, SHARED, Share};
 use crate::socket::{SocketInput, SocketOutput, Spends};
 use mc_conn::{Conn, PULL_BYTES, Role, State};
@@ -177,10 +177,7 @@ impl Connection {
         (*sent, *bytes_sent) = output.into_parts();
         let given = bytes_received.saturating_sub(came);
         let requests = conn.answered().saturating_sub(answered);
-        // Where nothing came, the requests that come next are likely as long as the last ones.
-        if given > 0 {
-            pace.count(given, requests);
-        }
+        pace.count(given, requests);
         let bytes = given.saturating_add(bytes_sent.saturating_sub(went));
         Served {
             state,
@@ -225,7 +222,7 @@ impl Connections {
     {
         let Arrival { role, mut stream } = arrival;
         // The queue is behind a lock, so nothing is proved about what comes out of it.
-        if !is_among(&role, self.tenants) {
+        if !role.is_among(self.tenants) {
             return Admission::UnknownRole;
         }
         if !self.places.has_place(&role) {

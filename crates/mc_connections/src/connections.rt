@@ -1,5 +1,5 @@
 //! The connections of an event loop.
-ghost use Rattle.std.specs.Prelude.{◌≡◌, ◌==◌, ◌≤◌, ◌<◌, ◌*◌, ◌↔◌, ℕ, [], IfOk, IsTrue, Some, length, true};
+ghost use Rattle.std.specs.Prelude.{◌≡◌, ◌==◌, ◌≤◌, ◌<◌, ◌*◌, ℕ, [], IfOk, Some, length, true};
 ghost use Rattle.mc_connections.specs.declared.connections.TheConstants.{MOST_OF_ALL};
 ghost use Rattle.mc_connections.specs.declared.places.TheConstants.{MOST_CONNECTIONS};
 ghost use Rattle.mc_connections.specs.Counting.{AreCounted, is_admin, tenants_among};
@@ -22,16 +22,6 @@ pub fn is_admin(role: &Role) -> bool
     ensures { result ≡ is_admin role.now }
 {
     matches!(role, Role::Admin(_))
-}
-
-/// Returns whether a log of this many tenants has the role.
-pub(crate) fn is_among(role: &Role, tenants: usize) -> bool
-    ensures { IsTrue result ↔ IsAmong role.now tenants }
-{
-    match role {
-        Role::Tenant(tenant) => usize::from(tenant.number()) < tenants,
-        Role::Admin(names) => names.len() == tenants,
-    }
 }
 
 /// The connections of an event loop by key, each of a role that the log has.
@@ -78,6 +68,7 @@ impl Connections {
         })
     }
 
+    /// Returns whether there is no connection.
     pub fn is_empty(&self) -> bool
         ensures { result ≡ (slab_len self.now.by_key == 0) }
     {

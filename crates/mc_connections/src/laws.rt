@@ -1,20 +1,26 @@
 //! What the definitions say of connections, log after log, and the numbers of this profile. A law
 //! is the contract of a function with an empty body, or with calls of the laws from which it
 //! follows.
-ghost use Rattle.std.specs.Prelude.{◌≡◌, ◌≢◌, ◌↔◌, ◌⊎◌, ◌+◌, ◌*◌, ◌^◌, ◌<◌, [], ◌∷◌, ◌++◌, All, Bool, None, Some, false, true, ℕ, List, length, slice_get};
+ghost use Rattle.std.specs.Prelude.{◌≡◌, ◌≢◌, ◌↔◌, ◌⊎◌, ◌+◌, ◌*◌, ◌^◌, ◌<◌, [], ◌∷◌, ◌++◌, All, Bool, None, Option, Some, false, true, ℕ, List, length, slice_get};
+ghost use Rattle.fair_places.specs.Places.{MayTake, held_by, with_held};
+ghost use Rattle.fair_queue.specs.Turns.{IsFair, IsPushed};
 ghost use Rattle.mc_conn.specs.Owed.{Mark, Owes, demand_of, is_logged};
 ghost use Rattle.mc_conn.specs.declared.conn.Role.{Role};
 ghost use Rattle.mc_conn.specs.declared.conn.Role.TheVariants.{Admin, Tenant};
+ghost use Rattle.mc_conn.specs.declared.conn.State.TheVariants.{Busy, Full};
 ghost use Rattle.mc_counters.specs.Tallied.{CountedRequest};
 ghost use Rattle.mc_connections.specs.Asking.{HaveBeenAsked};
+ghost use Rattle.mc_connections.specs.Counting.{HasPlace, held_as, is_of_tenant, with_held_as};
+ghost use Rattle.mc_connections.specs.Holding.{WorkerPlaces};
+ghost use Rattle.mc_connections.specs.InQueue.{WaitsOn};
 ghost use Rattle.mc_connections.specs.InTurn.{HaveServedInTurn, InTurn};
 ghost use Rattle.mc_connections.specs.Life.{OwesInLogs, OwesInParts, WasAnswered, came_of, sent_of};
-ghost use Rattle.mc_connections.specs.Round.{HaveCome, IsOfConnection, TellsEnd};
+ghost use Rattle.mc_connections.specs.Round.{HaveCome, IsOfConnection, MakesRound, Queued, ServesNext, TellsEnd};
 ghost use Rattle.mc_connections.specs.Seen.{AreAnsweredFrom, IsAnsweredAmong, IsThere, SeesThenAsks, SplitsAtLast, WasSent, announced_number, history_place};
 ghost use Rattle.mc_connections.specs.Serving.{HasComeTo, answered_between, moved_between, tenant_of};
 ghost use Rattle.mc_connections.specs.Sharing.{OnlyTheTurnGoesOn, OthersTakeOneTurnEach, RoundsAreServes};
 ghost use Rattle.mc_connections.specs.Tallying.{tally_place};
-ghost use Rattle.mc_connections.specs.Waiting.{cost_of, flow_of, short_at};
+ghost use Rattle.mc_connections.specs.Waiting.{LetsWait, WaitsInLine, cost_of, flow_of, short_at};
 ghost use Rattle.mc_connections.specs.Working.{IsEmpty, KeepsPlaces, Standing, Works, standing};
 ghost use Rattle.mc_connections.specs.declared.arrival.Admission.{Admission};
 ghost use Rattle.mc_connections.specs.declared.arrival.Arrival.{Arrival};
@@ -71,6 +77,44 @@ pub fn each_tenant_has_its_own()
     ensures tally_of_admins { (tenants : ℕ) → tally_place tenants None ≡ tenants }
 {}
 
+/// Each tenant holds places of its own, those of its number, however many tenants there are: they
+/// decide whether one more of its connections has a place, a connection that takes or gives back a
+/// place changes those of no other tenant, and it counts for its own tenant alone.
+pub fn each_tenant_holds_its_own_places()
+    ensures place { (tenant : ℕ) (places : WorkerPlaces) →
+        HasPlace (Tenant tenant) places ↔ MayTake tenant places.tenants }
+    ensures held { (tenant : ℕ) (places : WorkerPlaces) →
+        held_as (Tenant tenant) places ≡ held_by places.tenants tenant }
+    ensures taken { (tenant held : ℕ) (places : WorkerPlaces) →
+        with_held_as (Tenant tenant) held places
+        ≡ record places { tenants = with_held places.tenants tenant held } }
+    ensures own { (tenant held : ℕ) (places : WorkerPlaces) →
+        tenant < length places.tenants.held →
+        held_as (Tenant tenant) (with_held_as (Tenant tenant) held places) ≡ held }
+    ensures others { (tenant other held : ℕ) (places : WorkerPlaces) → other ≢ tenant →
+        held_as (Tenant other) (with_held_as (Tenant tenant) held places)
+        ≡ held_as (Tenant other) places }
+    ensures counts { (tenant other : ℕ) →
+        (is_of_tenant tenant (Tenant other) ≡ true) ↔ (other ≡ tenant) }
+{}
+
+/// A connection that has more to do, or whose command was left to the next log, waits behind those
+/// of its tenant or of administrators, whatever the tenant's number and the connection's key, and a
+/// short read isn't the last one for it. One that waits already stays where it is.
+pub fn who_has_more_to_do_waits()
+    ensures busy { (tenant : Option ℕ) (key : ℕ) (old new : Waiting) →
+        WaitsOn Busy tenant key old new → LetsWait tenant key false old new }
+    ensures full { (tenant : Option ℕ) (key : ℕ) (old new : Waiting) →
+        WaitsOn Full tenant key old new → LetsWait tenant key false old new }
+    ensures waits { (tenant : Option ℕ) (key : ℕ) (short : Bool) (old new : Waiting) →
+        key < length old.waits.items → LetsWait tenant key short old new → WaitsInLine new key
+        × (IsPushed (flow_of (length old.queue.flows) tenant) key old.queue new.queue
+        ⊎ WaitsInLine old key × (new.queue ≡ old.queue)) }
+    ensures short { (tenant : Option ℕ) (key : ℕ) (old new : Waiting) →
+        key < length old.waits.items → LetsWait tenant key false old new →
+        short_at new key ≡ Some false }
+{}
+
 /// To serve a connection costs 4,096, as what the system's calls count, 1,024 for each of its
 /// requests that got a reply, and 1 for each byte that came and each that was sent, as far as 64
 /// bits count.
@@ -94,6 +138,18 @@ pub fn others_take_one_turn_each()
     ensures rounds { RoundsAreServes }
 {
     fair_queue::laws::a_flow_waits_for_one_quantum_of_each_other();
+}
+
+/// A worker's queue is fair when it is new, as `ReadyQueue::new` returns it, and each round, and
+/// each serve in it, leaves it so.
+pub fn rounds_stay_fair()
+    ensures round { (until : Bool) (events : List Event) (before after : Queued) →
+        MakesRound until events before after → IsFair before.waiting.queue →
+        IsFair after.waiting.queue }
+    ensures serve { (until : Bool) (before after : Queued) → ServesNext until before after →
+        IsFair before.waiting.queue → IsFair after.waiting.queue }
+{
+    fair_queue::laws::a_fair_queue_stays_fair();
 }
 
 /// Once 10,240 are spent in a round, only connections of the flow that has its turn are served in

@@ -51,8 +51,12 @@ impl Pace {
         }
     }
 
-    /// Counts the bytes that came in one serve, and the requests that were answered.
+    /// Counts the bytes that came in one serve, and the requests that were answered; nothing where
+    /// no byte came, since what comes next is likely as long as the last requests then.
     pub(crate) fn count(&mut self, bytes: u64, requests: u64) {
+        if bytes == 0 {
+            return;
+        }
         let bytes = self.unanswered.saturating_add(bytes);
         match bytes.checked_div(requests) {
             Some(each) => {

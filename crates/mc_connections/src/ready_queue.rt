@@ -1,6 +1,7 @@
 //! Which of an event loop's connections are served next.
 ghost use Rattle.std.specs.List.{list_any};
 ghost use Rattle.std.specs.Prelude.{◌≡◌, ◌+◌, ◌-◌, ◌*◌, ◌^◌, ◌≤◌, ◌↔◌, length, min, replicate, All, IfOk, IsTrue, None, OnOk, Some};
+ghost use Rattle.fair_queue.specs.Turns.{IsFair};
 ghost use Rattle.mc_connections.specs.InQueue.{HasLetWait, HasServedNext};
 ghost use Rattle.mc_connections.specs.Round.{HaveCome, MakesRound, NoConnectionWaits, is_wake, queued_at, short_of};
 ghost use Rattle.mc_connections.specs.Serving.{tenant_at};
@@ -64,6 +65,7 @@ impl ReadyQueue {
             (λ ready. length ready.waiting.queue.flows ≡ min (tenants + 1) (2 ^ 64 - 1)) }
         ensures quantum { IfOk result (λ ready. ready.waiting.queue.quantum ≡ QUANTUM) }
         ensures idle { IfOk result NoConnectionWaits }
+        ensures fair { IfOk result (λ ready. IsFair ready.waiting.queue) }
         ensures none { IfOk result
             (λ ready. ready.waiting.waits.items ≡ replicate MOST_OF_ALL None) }
     {
@@ -117,8 +119,9 @@ impl ReadyQueue {
         next: Next,
     ) -> Result<(), AllocError>
         requires { self.old.connections.tenants ≡ length (tenants_of worker.old) }
-        ensures served { HasServedNext until_done next.key (standing worker.old self.old.connections)
-            (standing worker.new self.new.connections) self.new.waiting }
+        ensures served { HasServedNext until_done next.key
+            (standing worker.old self.old.connections) (standing worker.new self.new.connections)
+            self.new.waiting }
         ensures waits { OnOk result (HasLetWait until_done next.key
             (standing worker.old self.old.connections) (standing worker.new self.new.connections)
             self.old.waiting self.new.waiting) }

@@ -1,6 +1,6 @@
 //! Which connections wait to be served, and whose turn it is.
 ghost use Rattle.std.specs.Prelude.{◌≡◌, ◌+◌, ◌-◌, ◌^◌, ◌↔◌, IfOk, IsTrue, MatchOption, None, OnOk, Some, false, length, min, replicate, unwrap_or};
-ghost use Rattle.fair_queue.specs.Turns.{IsIdle};
+ghost use Rattle.fair_queue.specs.Turns.{IsFair, IsIdle};
 ghost use Rattle.mc_connections.specs.Waiting.{ComesToWait, EndsRound, IsNoted, IsRoundOver, TakesTurn, WaitsInLine, cost_of, short_at, short_with};
 ghost use Rattle.mc_connections.specs.declared.connections.TheConstants.{MOST_OF_ALL};
 ghost use Rattle.mc_connections.specs.declared.waiting.TheConstants.{QUANTUM};
@@ -52,6 +52,7 @@ impl Waiting {
         ensures flows { IfOk result
             (λ waiting. length waiting.queue.flows ≡ min (tenants + 1) (2 ^ 64 - 1)) }
         ensures idle { IfOk result (λ waiting. IsIdle waiting.queue) }
+        ensures fair { IfOk result (λ waiting. IsFair waiting.queue) }
         ensures quantum { IfOk result (λ waiting. waiting.queue.quantum ≡ QUANTUM) }
         ensures none { IfOk result
             (λ waiting. waiting.waits.items ≡ replicate MOST_OF_ALL None) }
@@ -65,6 +66,7 @@ impl Waiting {
         })
     }
 
+    /// Returns whether no connection waits.
     pub(crate) fn is_empty(&self) -> bool
         ensures { IsTrue result ↔ IsIdle self.now.queue }
     {

@@ -22,6 +22,7 @@ pub struct TenantShown {
     /// How many items the tenant's table holds, and how many bytes their keys and data have.
     pub items: u64,
     pub bytes: u64,
+    /// How many of each it may hold.
     pub quotas: Limits,
 }
 
@@ -49,47 +50,47 @@ pub struct LogShown {
     pub turn_over_micros: u64,
 }
 
-/// Where a tenant's words are, after those before it.
+/// Where a tenant's words are, after those before it: its commands by kind, and then these.
 const REFUSALS_AT: usize = COMMANDS;
 
-const HITS_AT: usize = 24;
+const HITS_AT: usize = REFUSALS_AT + REFUSALS;
 
-const MISSES_AT: usize = 25;
+const MISSES_AT: usize = HITS_AT + 1;
 
-const CONNECTIONS_AT: usize = 26;
+const CONNECTIONS_AT: usize = MISSES_AT + 1;
 
-const ITEMS_AT: usize = 27;
+const ITEMS_AT: usize = CONNECTIONS_AT + 1;
 
-const BYTES_AT: usize = 28;
+const BYTES_AT: usize = ITEMS_AT + 1;
 
-const ITEM_QUOTA_AT: usize = 29;
+const ITEM_QUOTA_AT: usize = BYTES_AT + 1;
 
-const BYTE_QUOTA_AT: usize = 30;
+const BYTE_QUOTA_AT: usize = ITEM_QUOTA_AT + 1;
 
 /// How many words a tenant has.
-const TENANT_WORDS: usize = 31;
+const TENANT_WORDS: usize = BYTE_QUOTA_AT + 1;
 
 /// Where the words of the worker itself are.
 const REPLAYED_AT: usize = 0;
 
-const LOG_BYTES_AT: usize = 1;
+const LOG_BYTES_AT: usize = REPLAYED_AT + 1;
 
-const SERVED_AT: usize = 2;
+const SERVED_AT: usize = LOG_BYTES_AT + 1;
 
-const REPLAYS_AT: usize = 3;
+const WORKER_GENERATION_AT: usize = SERVED_AT + 1;
 
 /// How many words the worker itself has, before those of the tenants.
-const WORKER_WORDS: usize = 4;
+const WORKER_WORDS: usize = WORKER_GENERATION_AT + 1;
 
 /// Where the words of the logs are.
 const GENERATION_AT: usize = 0;
 
-const TURN_OVERS_AT: usize = 1;
+const TURN_OVERS_AT: usize = GENERATION_AT + 1;
 
-const TURN_OVER_MICROS_AT: usize = 2;
+const TURN_OVER_MICROS_AT: usize = TURN_OVERS_AT + 1;
 
 /// How many words the logs have.
-const LOG_WORDS: usize = 3;
+const LOG_WORDS: usize = TURN_OVER_MICROS_AT + 1;
 
 /// The words of a worker, or of the logs.
 #[derive(Drop)]
@@ -220,7 +221,8 @@ impl Publisher {
     /// Shows the worker's numbers in the log that is served: how many places it has replayed, how
     /// many bytes their commands keep, and how many connections it serves.
     pub fn show_worker(&mut self, replayed: u64, bytes: u64, connections: u64) {
-        self.words.set(REPLAYS_AT, self.log.get(GENERATION_AT));
+        self.words
+            .set(WORKER_GENERATION_AT, self.log.get(GENERATION_AT));
         self.words.set(REPLAYED_AT, replayed);
         self.words.set(LOG_BYTES_AT, bytes);
         self.words.set(SERVED_AT, connections);
@@ -254,7 +256,7 @@ impl Board {
     /// Returns what the worker shows of itself.
     pub fn worker(&self) -> WorkerShown {
         WorkerShown {
-            generation: self.words.get(REPLAYS_AT),
+            generation: self.words.get(WORKER_GENERATION_AT),
             replayed: self.words.get(REPLAYED_AT),
             bytes: self.words.get(LOG_BYTES_AT),
             connections: self.words.get(SERVED_AT),

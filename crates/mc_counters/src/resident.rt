@@ -1,6 +1,6 @@
 //! How much memory a process has resident, as the lines of Linux's `/proc/self/status` say it.
 
-/// What the line begins with that says it.
+/// How the line with that number begins.
 const RESIDENT: &[u8] = b"VmRSS:";
 
 /// Returns the number that the first digits of a text spell, or `None` if it has none or is too

@@ -146,7 +146,7 @@ flush_asked_at_once exptime true no_time = ap (λ failure. asked_unless failure 
 
 -- Texts.
 module _ (line : List ℕ) (unbroken : IsUnbroken line) (short : length line ≤ 65536) where
-  text_of : (lines : Lines) (body : List ℕ) (a : Asked) (request : Request) → lines line ≡ a → length body ≡ body_length a → request_of a body ≡ request → IsRequestText lines (line ++ 10 ∷ body) request
+  pub text_of : (lines : Lines) (body : List ℕ) (a : Asked) (request : Request) → lines line ≡ a → length body ≡ body_length a → request_of a body ≡ request → IsRequestText lines (line ++ 10 ∷ body) request
   text_of lines body a request asks whole is = inl (record {
     line = line;
     body = body;

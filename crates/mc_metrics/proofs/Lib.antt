@@ -1,3 +1,5 @@
 pub mod AtNumbers
 pub mod Furthest
 pub mod LabelLists
+pub mod Samples
+pub mod Seconds

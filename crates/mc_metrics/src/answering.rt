@@ -104,8 +104,7 @@ fn answer(
 }
 
 impl Service for Scrape {
-    // The status, the fields and the body are those for the request's method and path and the
-    // snapshot, which stays as it is.
+    // The answer is the one for the request's method and path and the snapshot, which stays.
     ghost answers = { λ old request response new. let head = head_of request in
         GivesAnswer (http_answer_to old.snapshot head.method (uri_path head.uri)) response
         × (new ≡ old) };

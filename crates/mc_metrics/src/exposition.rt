@@ -87,7 +87,7 @@ fn write_sample(
     out.extend_from_slice(b"\n")
 }
 
-/// Appends a line about a metric, after a front that says what it tells.
+/// Appends a line about a metric: `# HELP ` or `# TYPE `, its name and a text.
 #[tactic(auto, unfolding(crate::specs::Exposition::comment_line))]
 fn write_comment(
     front: &[u8],

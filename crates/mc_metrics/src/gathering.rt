@@ -18,11 +18,13 @@ pub struct Shown {
     pub tallies: Vec<Tally>,
 }
 
-/// What a server shows, with as many places in each log.
+/// What a server shows at one time.
 #[derive(Debug, Drop)]
 pub struct ServerShown {
+    /// How many places each log has.
     pub places: u64,
     pub logs: LogShown,
+    /// By the workers' numbers.
     pub workers: Vec<Shown>,
     /// How many bytes of memory the process has resident, if the system says so.
     pub resident_bytes: Option<u64>,

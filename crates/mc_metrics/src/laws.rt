@@ -1,12 +1,27 @@
 //! What the definitions say of a scrape. A law is the contract of a function with an empty body, or
 //! with calls of the laws from which it follows.
-ghost use Rattle.std.specs.Prelude.{◌≡◌, ◌<◌, ◌≤◌, ◌+◌, ◌++◌, [], ◌∷◌, ℕ, All, Contains, List, Some, length, map, slice_get, sum_by};
+ghost use Rattle.std.specs.Prelude.{◌≡◌, ◌<◌, ◌≤◌, ◌+◌, ◌/◌, ◌%◌, ◌++◌, [], ◌∷◌, ℕ, All, Contains, List, None, Some, codes, decimal, flat_map, length, map, slice_get, slice_index, sum_by};
+ghost use Rattle.std.specs.Str.Parse.{IsNumeral, digits_value};
+ghost use Rattle.mc_counters.specs.Kinds.{place_of_kind, place_of_refusal};
+ghost use Rattle.mc_counters.specs.declared.kinds.CommandKind.{CommandKind};
+ghost use Rattle.mc_counters.specs.declared.kinds.TheConstants.{COMMAND_KINDS, REFUSAL_KINDS};
 ghost use Rattle.mc_counters.specs.Tallied.{CountedRequest, IsTallyOf, capped};
 ghost use Rattle.mc_counters.specs.declared.board.TenantShown.{TenantShown};
 ghost use Rattle.mc_counters.specs.declared.tally.Tally.{Tally};
+ghost use Rattle.mc_model.specs.declared.reply.WireNo.{WireNo};
 ghost use Rattle.mc_metrics.specs.Gathering.{Gathers, GathersNone, tally_at, tally_shown, tenant_shown};
+ghost use Rattle.mc_metrics.specs.Metrics.{command_label, command_sample, metric_name, metrics_text, refusal_label, refusal_sample, samples_of, seconds_text, server_value, tenant_sample, tenant_value, worker_sample, worker_value};
+ghost use Rattle.mc_metrics.specs.Page.{page_text, tenant_row};
 ghost use Rattle.mc_metrics.specs.declared.gathering.ServerShown.{ServerShown};
 ghost use Rattle.mc_metrics.specs.declared.gathering.Shown.{Shown};
+ghost use Rattle.mc_metrics.specs.declared.metric.Metric.{Metric};
+ghost use Rattle.mc_metrics.specs.declared.metric.Metric.TheVariants.{Commands, OfServer, OfTenant, OfWorker, Refusals, TurnOvers};
+ghost use Rattle.mc_metrics.specs.declared.metric.ServerMetric.{ServerMetric};
+ghost use Rattle.mc_metrics.specs.declared.metric.ServerMetric.TheVariants.{Generation, LogBytes, Places, ResidentBytes, UsedPlaces};
+ghost use Rattle.mc_metrics.specs.declared.metric.TenantMetric.{TenantMetric};
+ghost use Rattle.mc_metrics.specs.declared.metric.TenantMetric.TheVariants.{ByteQuota, Bytes, Connections, Hits, ItemQuota, Items, Misses};
+ghost use Rattle.mc_metrics.specs.declared.metric.WorkerMetric.{WorkerMetric};
+ghost use Rattle.mc_metrics.specs.declared.metric.WorkerMetric.TheVariants as worker;
 ghost use Rattle.mc_metrics.specs.declared.snapshot.Snapshot.{Snapshot};
 ghost use Rattle.mc_metrics.specs.declared.snapshot.TenantNumbers.{TenantNumbers};
 ghost use Rattle.mc_metrics.specs.declared.snapshot.WorkerNumbers.{WorkerNumbers};
@@ -65,8 +80,7 @@ pub fn each_worker_is_shown_at_its_number()
         Gathers names shown snapshot →
         map (λ numbers. numbers.connections) snapshot.workers.items
         ≡ map (λ one. one.worker.connections) shown.workers.items }
-    // While no worker is of a later log, the lag of one that is of this log and what it has
-    // replayed are together the places that are used.
+    // While none is of a later log, the lag of one of this log completes what it has replayed.
     ensures lag { (names : List (List ℕ)) (shown : ServerShown) (snapshot : Snapshot) →
         Gathers names shown snapshot →
         All (λ other. other.worker.generation ≤ shown.logs.generation) shown.workers.items →
@@ -110,4 +124,116 @@ pub fn the_log_is_shown_by_its_furthest_worker()
         (snapshot.log.used_places ≡ 0) × (snapshot.log.bytes ≡ 0) }
     ensures nobody { (shown : ServerShown) (snapshot : Snapshot) → GathersNone shown snapshot →
         (snapshot.log.used_places ≡ 0) × (snapshot.log.bytes ≡ 0) }
+{}
+
+/// What a scrape gets has the samples of each metric, and among these are those of every tenant or
+/// worker, however many there are.
+pub fn every_tenant_and_worker_has_its_samples()
+    ensures metrics { (snapshot : Snapshot) (metric : Metric) → (before after : List ℕ)
+        × (metrics_text snapshot ≡ before ++ samples_of snapshot metric ++ after) }
+    // The samples of some tenants and of others are those of both,
+    ensures tenants { (metric : TenantMetric) (one other both : Snapshot) →
+        both.tenants.items ≡ one.tenants.items ++ other.tenants.items →
+        samples_of both (OfTenant metric)
+        ≡ samples_of one (OfTenant metric) ++ samples_of other (OfTenant metric) }
+    ensures commands { (one other both : Snapshot) →
+        both.tenants.items ≡ one.tenants.items ++ other.tenants.items →
+        samples_of both Commands ≡ samples_of one Commands ++ samples_of other Commands }
+    ensures refusals { (one other both : Snapshot) →
+        both.tenants.items ≡ one.tenants.items ++ other.tenants.items →
+        samples_of both Refusals ≡ samples_of one Refusals ++ samples_of other Refusals }
+    // and a tenant alone has one of each metric, and one for each kind of commands and refusals.
+    ensures tenant { (metric : TenantMetric) (snapshot : Snapshot) (tenant : TenantNumbers) →
+        snapshot.tenants.items ≡ tenant ∷ [] →
+        samples_of snapshot (OfTenant metric) ≡ tenant_sample metric tenant }
+    ensures kinds { (snapshot : Snapshot) (tenant : TenantNumbers) →
+        snapshot.tenants.items ≡ tenant ∷ [] →
+        (samples_of snapshot Commands ≡ flat_map (command_sample tenant) COMMAND_KINDS)
+        × (samples_of snapshot Refusals ≡ flat_map (refusal_sample tenant) REFUSAL_KINDS) }
+    // The same holds of workers.
+    ensures workers { (metric : WorkerMetric) (one other both : Snapshot) →
+        both.workers.items ≡ one.workers.items ++ other.workers.items →
+        samples_of both (OfWorker metric)
+        ≡ samples_of one (OfWorker metric) ++ samples_of other (OfWorker metric) }
+    ensures worker { (metric : WorkerMetric) (snapshot : Snapshot) (numbers : WorkerNumbers) →
+        snapshot.workers.items ≡ numbers ∷ [] →
+        samples_of snapshot (OfWorker metric) ≡ worker_sample metric numbers }
+{}
+
+/// A sample is a line with the name of its metric, the labels that say whose it is, and its number
+/// whole, in decimal digits.
+pub fn samples_show_numbers_whole()
+    ensures tenant { (metric : TenantMetric) (tenant : TenantNumbers) → tenant_sample metric tenant
+        ≡ metric_name (OfTenant metric) ++ codes "{tenant=\"" ++ tenant.name ++ codes "\"} "
+        ++ decimal (tenant_value metric tenant) ++ codes "\n" }
+    ensures tenant_numbers { (tenant : TenantNumbers) →
+        (tenant_value Items tenant ≡ tenant.items)
+        × (tenant_value Bytes tenant ≡ tenant.bytes)
+        × (tenant_value ItemQuota tenant ≡ tenant.quotas.items)
+        × (tenant_value ByteQuota tenant ≡ tenant.quotas.bytes)
+        × (tenant_value Hits tenant ≡ tenant.tally.hits)
+        × (tenant_value Misses tenant ≡ tenant.tally.misses)
+        × (tenant_value Connections tenant ≡ tenant.connections) }
+    ensures command { (tenant : TenantNumbers) (kind : CommandKind) → command_sample tenant kind
+        ≡ codes "wfmc_tenant_commands_total{tenant=\"" ++ tenant.name ++ codes "\",command=\""
+        ++ command_label kind ++ codes "\"} "
+        ++ decimal (slice_index tenant.tally.commands (place_of_kind kind)) ++ codes "\n" }
+    ensures refusal { (tenant : TenantNumbers) (refusal : WireNo) → refusal_sample tenant refusal
+        ≡ codes "wfmc_tenant_refusals_total{tenant=\"" ++ tenant.name ++ codes "\",refusal=\""
+        ++ refusal_label refusal ++ codes "\"} "
+        ++ decimal (slice_index tenant.tally.refusals (place_of_refusal refusal)) ++ codes "\n" }
+    ensures worker { (metric : WorkerMetric) (numbers : WorkerNumbers) →
+        worker_sample metric numbers
+        ≡ metric_name (OfWorker metric) ++ codes "{worker=\"" ++ decimal numbers.number
+        ++ codes "\"} " ++ decimal (worker_value metric numbers) ++ codes "\n" }
+    ensures worker_numbers { (numbers : WorkerNumbers) →
+        (worker_value worker.Lag numbers ≡ numbers.lag)
+        × (worker_value worker.Connections numbers ≡ numbers.connections) }
+    // A number of the server that isn't known has no sample.
+    ensures known { (metric : ServerMetric) (snapshot : Snapshot) (number : ℕ) →
+        server_value metric snapshot ≡ Some number → samples_of snapshot (OfServer metric)
+        ≡ metric_name (OfServer metric) ++ codes " " ++ decimal number ++ codes "\n" }
+    ensures unknown { (metric : ServerMetric) (snapshot : Snapshot) →
+        server_value metric snapshot ≡ None → samples_of snapshot (OfServer metric) ≡ [] }
+    ensures server_numbers { (snapshot : Snapshot) →
+        (server_value Places snapshot ≡ Some snapshot.log.places)
+        × (server_value UsedPlaces snapshot ≡ Some snapshot.log.used_places)
+        × (server_value LogBytes snapshot ≡ Some snapshot.log.bytes)
+        × (server_value Generation snapshot ≡ Some snapshot.log.generation)
+        × (server_value ResidentBytes snapshot ≡ snapshot.resident_bytes) }
+    ensures turn_overs { (snapshot : Snapshot) → samples_of snapshot TurnOvers
+        ≡ codes "wfmc_turn_over_seconds_sum " ++ seconds_text snapshot.log.turn_over_micros
+        ++ codes "\nwfmc_turn_over_seconds_count " ++ decimal snapshot.log.turn_overs
+        ++ codes "\n" }
+{}
+
+/// A number of microseconds is shown in seconds: the whole ones in decimal digits, a point, and six
+/// digits whose number is that of the microseconds that are left.
+pub fn seconds_have_six_digits_after_the_point()
+    ensures { (micros : ℕ) → (digits : List ℕ)
+        × (seconds_text micros ≡ decimal (micros / 1000000) ++ codes "." ++ digits)
+        × (length digits ≡ 6) × IsNumeral 10 digits
+        × (digits_value 10 digits ≡ micros % 1000000) }
+{}
+
+/// Each tenant has its row on the page, with its name and its numbers whole: without the tenant,
+/// the page is the same but for this row.
+pub fn every_tenant_has_its_row()
+    ensures rows { (before after : List TenantNumbers) (tenant : TenantNumbers)
+        (more fewer : Snapshot) → more.tenants.items ≡ before ++ tenant ∷ after →
+        fewer.tenants.items ≡ before ++ after → more.log ≡ fewer.log →
+        (front back : List ℕ) × (page_text more ≡ front ++ tenant_row tenant ++ back)
+        × (page_text fewer ≡ front ++ back) }
+    ensures row { (tenant : TenantNumbers) → tenant_row tenant
+        ≡ codes "<tr><th>" ++ tenant.name ++ codes "<td>" ++ decimal tenant.items
+        ++ codes "<td>" ++ decimal tenant.quotas.items ++ codes "<td>" ++ decimal tenant.bytes
+        ++ codes "<td>" ++ decimal tenant.quotas.bytes ++ codes "<td>"
+        ++ decimal tenant.connections ++ codes "\n" }
+    // The numbers of the log are whole too.
+    ensures log { (snapshot : Snapshot) → (front back : List ℕ)
+        × (page_text snapshot
+        ≡ front ++ codes "<td>" ++ decimal snapshot.log.generation ++ codes "<td>"
+        ++ decimal snapshot.log.used_places ++ codes "<td>" ++ decimal snapshot.log.places
+        ++ codes "<td>" ++ decimal snapshot.log.bytes ++ codes "<td>"
+        ++ decimal snapshot.log.turn_overs ++ back) }
 {}

@@ -10,6 +10,7 @@ pub struct TenantNumbers {
     pub items: u64,
     /// How many bytes their keys and data have.
     pub bytes: u64,
+    /// How many of each it may hold.
     pub quotas: Limits,
     /// How many connections the tenant has now.
     pub connections: u64,
@@ -31,6 +32,7 @@ pub struct WorkerNumbers {
 /// The numbers of the log that is served, and of those before it.
 #[derive(Clone, Copy, Debug)]
 pub struct LogNumbers {
+    /// How many places it has, and how many of them are used.
     pub places: u64,
     pub used_places: u64,
     /// How many bytes its commands keep.

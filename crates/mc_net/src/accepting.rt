@@ -3,6 +3,7 @@ ghost use Rattle.std.specs.Prelude.{◌≡◌, IfOk, MatchResult};
 ghost use Rattle.mc_net.specs.Beginning.{HaltsServing};
 
 use crate::beginning::Begin;
+use crate::event_loop::poll_events;
 use crate::halt::Halt;
 use crate::handing::{Accepted, accept_one};
 use crate::listener::{BoundListener, RoleListener};
@@ -26,7 +27,7 @@ const ACCEPTS: u32 = 64;
 /// How long the acceptor waits at most before it retries a listener that failed, in milliseconds.
 const PAUSE_MILLIS: u64 = 50;
 
-/// How long the workers' loops have to begin: this many polls of a millisecond.
+/// How long the workers' loops have to begin: this many polls of a millisecond that report nothing.
 const POLLS_TO_BEGIN: u32 = 10_000;
 
 /// The listeners, and the poll that reports their streams.
@@ -137,9 +138,7 @@ impl Acceptor {
         ensures { self.new.listeners ≡ self.old.listeners }
     {
         let timeout = self.timeout();
-        if self.poll.poll(&mut self.events, timeout).is_err() {
-            return Err(Halt::Poll);
-        }
+        poll_events(&mut self.poll, &mut self.events, timeout)?;
         let asks_all = self.is_troubled || self.has_more;
         self.is_troubled = false;
         self.has_more = false;
@@ -162,24 +161,29 @@ impl Acceptor {
     /// Waits until every worker's loop has begun, so that no stream is handed to a thread that
     /// never runs.
     ///
-    /// On the first log no listener is registered yet, so that clients who connect don't shorten
-    /// the wait; on a later one all listeners are asked afterwards, since polls here drop what they
+    /// Polls that report something don't count, so that clients who connect don't shorten the wait.
+    /// All listeners that are registered are asked afterwards, since polls here drop what they
     /// report. Returns `Memory` if a loop doesn't begin in time, for example because the system
     /// refuses its thread, and `Poll` if a poll fails.
     fn await_workers<R: Wait>(&mut self, rt: &R, mailboxes: &Mailboxes) -> Result<(), Halt>
         ensures { self.new.listeners ≡ self.old.listeners }
     {
-        let pause = Duration::from_millis(1);
-        for _ in 0..POLLS_TO_BEGIN {
+        let pause = Some(Duration::from_millis(1));
+        let mut idle_polls = 0u32;
+        for _ in rt.forever() {
             if mailboxes.has_begun(rt) {
                 self.has_more = self.is_registered;
                 return Ok(());
             }
-            if self.poll.poll(&mut self.events, Some(pause)).is_err() {
-                return Err(Halt::Poll);
+            if idle_polls >= POLLS_TO_BEGIN {
+                return Err(Halt::Memory);
+            }
+            poll_events(&mut self.poll, &mut self.events, pause)?;
+            if self.events.is_empty() {
+                idle_polls = idle_polls.saturating_add(1);
             }
         }
-        Err(Halt::Memory)
+        unreachable!()
     }
 
     /// Registers the listeners, once. The next poll reports those at which streams are waiting

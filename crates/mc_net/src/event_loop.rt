@@ -29,8 +29,8 @@ use uc_worker::{Gate, Worker};
 /// How many events a poll of a worker reports at most.
 const EVENTS: usize = 256;
 
-/// How many arrivals a worker admits between two polls: fewer than a round serves, so that
-/// connections whose clients are already gone make room for later ones.
+/// How many arrivals a worker admits between two polls: few, so that those who are here are served
+/// meanwhile, and connections whose clients are already gone make room for later ones.
 const ARRIVALS: u32 = 8;
 
 /// Each time that a worker's history has grown past a multiple of this many places in a round, the
@@ -75,7 +75,7 @@ fn passes_stride(before: usize, after: usize) -> bool {
 /// Waits for events, no longer than the timeout if there is one.
 ///
 /// Returns `Poll` if the poll fails.
-fn poll_events(
+pub(crate) fn poll_events(
     poll: &mut Poll,
     events: &mut Events,
     timeout: Option<Duration>,
@@ -102,7 +102,8 @@ impl EventLoop {
     ) -> Result<EventLoop, Halt>
         requires { tenants * reserve ≤ MOST_CONNECTIONS }
         ensures new { IfOk result (λ event_loop. IsNewFor tenants event_loop.ready.connections) }
-        ensures reserve { IfOk result (λ event_loop. KeepsPlaces reserve event_loop.ready.connections) }
+        ensures reserve { IfOk result
+            (λ event_loop. KeepsPlaces reserve event_loop.ready.connections) }
         ensures bytes { IfOk result (ClosesAt most_bytes) }
     {
         let events = Events::with_capacity(alloc, EVENTS)?;
@@ -258,7 +259,7 @@ impl EventLoop {
     /// `RETRY_MILLIS` if memory was refused while the worker caught up; and otherwise until an
     /// event comes.
     fn timeout(&self, may_have_arrivals: bool) -> Option<Duration>
-        // It waits without an end where nothing is left that no event would tell of, and only there.
+        // It waits without an end just where nothing is left that no event would report.
         ensures { (result ≡ None) ↔ (may_have_arrivals ≡ false)
             × NoConnectionWaits self.now.ready × (self.now.is_behind ≡ false)
             × (self.now.is_starved ≡ false) }
@@ -333,15 +334,8 @@ impl EventLoop {
             }
             let timeout = self.timeout(signal.is_none());
             poll_events(&mut self.poll, &mut self.events, timeout)?;
-            let is_woken = self.make_round(
-                until_done,
-                worker,
-                gate,
-                &mut buffer,
-                mailboxes,
-                number,
-            )?;
-            if is_woken || signal.is_none() {
+            let woken = self.make_round(until_done, worker, gate, &mut buffer, mailboxes, number)?;
+            if woken || signal.is_none() {
                 signal = self.admit_arrivals(rt, mailboxes, number)?;
             }
         }

@@ -201,10 +201,10 @@ impl Front {
         requires tenants { self.old.tenants ≡ length log.now.settings.tenants }
         requires loops { vec_len self.old.event_loops ≡ vec_len workers }
         requires gates { vec_len gates ≡ vec_len workers }
-        // Each worker admitted arrivals and served the connections of its event loop, those that
-        // earlier workers have left among them.
+        // Each worker admitted arrivals and served its loop's connections, those left there too.
         ensures served { IfOk result (λ pair. HaveServedAt (not is_last) pair.1
-            workers.entry.items self.old.event_loops.items pair.0.items self.new.event_loops.items) }
+            workers.entry.items self.old.event_loops.items pair.0.items
+            self.new.event_loops.items) }
         // So whoever has served there before, now this log's workers have too.
         ensures in_turn { IfOk result (λ pair. (past : List InTurn) →
             AllZip HasBeenServedBy past self.old.event_loops.items →
@@ -218,19 +218,16 @@ impl Front {
         ensures back { IfOk result (λ pair. AllZip Continues workers.entry.items pair.0.items) }
         ensures logs { IfOk result
             (λ pair. All (λ worker. worker.log.now ≡ log.entry.now) pair.0.items) }
-        // One run of the log, from its opening, has all calls of these workers' seats, in order,
-        // and no other events of theirs.
+        // One run of the log, from its opening, has all their calls in order, and no others.
         ensures run { IfOk result (λ pair. AreOnOneRun pair.0.items) }
-        // Without a fault the front has as many event loops as before; after one it has none. It is
-        // for as many tenants as before in either case.
+        // It has as many event loops as before, or none after a fault, and as many tenants.
         ensures loops { IfOk result
             (λ _. vec_len self.new.event_loops ≡ vec_len self.old.event_loops) }
         ensures tenants { self.new.tenants ≡ self.old.tenants }
         // It accepts at the same listeners, in order, for the same roles, after a fault too.
         ensures listeners { listeners_of self.new.acceptor.listeners.items
             ≡ listeners_of self.old.acceptor.listeners.items }
-        // It began with the state; or the network failed before it began with the state, or
-        // afterwards; or a fault stopped that.
+        // It began with the state; or the network failed, before that or after; or that stopped.
         ensures outcome { MatchResult result (λ _. B.done begin.now state.old state.new)
             (HaltsServing (B.done begin.now) (B.stopped begin.now) state.old state.new) }
     {

@@ -6,7 +6,7 @@
 //!
 //! `specs/Handing.antt` says which stream goes where, `specs/Running.antt` what the loops leave,
 //! `specs/Returning.antt` what comes back of one log, and `specs/Beginning.antt` what is left of
-//! the state with which serving begins. What becomes of connections `mc_connections` says.
+//! the state with which serving begins. `mc_connections` says what becomes of connections.
 #![tactic(auto)]
 
 pub use beginning::Begin;

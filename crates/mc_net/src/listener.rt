@@ -2,6 +2,7 @@
 ghost use Rattle.std.specs.Prelude.{◌≡◌, ⊤, IfOk};
 ghost use Rattle.mc_net.specs.Handing.{IsArrivalOf};
 
+use libc::net::{SO_KEEPALIVE, SOL_SOCKET, setsockopt};
 use mc_conn::Role;
 use mc_connections::Arrival;
 use mio::net::{TcpListener, TcpStream};
@@ -12,6 +13,7 @@ use std::os::fd::{AsRawFd, RawFd};
 
 /// Accepts streams.
 pub trait Listen {
+    /// What is accepted.
     type Stream;
 
     /// The stream is one that this listener accepted.
@@ -22,6 +24,16 @@ pub trait Listen {
     /// Returns an error of the kind `WouldBlock` if none is waiting.
     fn accept_stream(&self) -> io::Result<Self::Stream>
         ensures { IfOk result (λ stream. accepted_by self.now stream) };
+}
+
+/// Has the system ask now and then whether the peers of quiet streams are still there, so that a
+/// host that has vanished doesn't hold its place for good. Streams have this from their listener.
+fn keep_alive(socket: &TcpListener) {
+    let mut on = [0u8; 16];
+    on[..4].copy_from_slice(&1i32.to_ne_bytes());
+    let descriptor = socket.as_raw_fd();
+    // If it is refused, such streams stay until the server ends.
+    let _ = unsafe { setsockopt(descriptor, SOL_SOCKET, SO_KEEPALIVE, &on, 4) };
 }
 
 /// A socket, and the address at which it was bound.
@@ -42,6 +54,7 @@ impl BoundListener {
         ensures { IfOk result (λ listener. listener.address ≡ address) }
     {
         let socket = TcpListener::bind(rt, SocketAddr::V4(address))?;
+        keep_alive(&socket);
         Ok(BoundListener { address, socket })
     }
 
@@ -53,7 +66,9 @@ impl BoundListener {
     }
 
     /// Returns the socket alone.
-    pub fn into_socket(self) -> TcpListener {
+    pub fn into_socket(self) -> TcpListener
+        ensures { result ≡ self.socket }
+    {
         self.socket
     }
 }
@@ -72,8 +87,7 @@ impl Listen for BoundListener {
 
     fn accept_stream(&self) -> io::Result<TcpStream> {
         let (stream, _) = self.socket.accept()?;
-        // Without it a reply may wait for an acknowledgement. If it is refused, the bytes are still
-        // the same.
+        // Without it replies may wait for acknowledgements; if it is refused, they do.
         let _ = stream.set_nodelay(true);
         Ok(stream)
     }
@@ -118,13 +132,10 @@ impl<L: Listen> RoleListener<L> {
     pub fn accept(&self) -> io::Result<Arrival<L::Stream>>
         ensures { IfOk result (IsArrivalOf L.accepted_by self.now) }
     {
-        let role = match self.role.share() {
-            Ok(role) => role,
-            Err(_) => return Err(io::Error::from(ErrorKind::OutOfMemory)),
+        let Ok(role) = self.role.share() else {
+            return Err(io::Error::from(ErrorKind::OutOfMemory));
         };
-        match self.socket.accept_stream() {
-            Ok(stream) => Ok(Arrival::new(role, stream)),
-            Err(error) => Err(error),
-        }
+        let stream = self.socket.accept_stream()?;
+        Ok(Arrival::new(role, stream))
     }
 }

@@ -51,7 +51,9 @@ pub(crate) struct Mailbox {
     waker: Waker,
 }
 
-// A wake that fails counts as a failed poll.
+/// Wakes a loop.
+///
+/// Returns `Poll` if that fails, as for a failed poll.
 fn wake(waker: &Waker) -> Result<(), Halt> {
     match waker.wake() {
         Ok(()) => Ok(()),
@@ -164,8 +166,7 @@ impl Receive<TcpStream> for Mailbox {
     fn receive<R: Wait>(&self, rt: &R, arrival: Arrival<TcpStream>) -> Result<(), Halt>
         ensures { OnOk result ⊤ }
     {
-        // A loop that ends as full leaves its queue to the next log, and none is done before the
-        // last stream.
+        // The offer never comes back: no loop leaves its mailbox before the last stream has come.
         let _ = self.put(
             rt,
             Offer {

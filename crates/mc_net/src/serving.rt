@@ -71,17 +71,14 @@ pub fn serve<'a, R: Threads + Wait + Net + Sync, G: Gate + Send + Drop, B: Begin
         (λ back. AllZip Continues workers.entry.items (map returned_worker back.items)) }
     // It admitted arrivals and served connections until none was left.
     ensures served { IfOk result (λ back. AllZip HasServed workers.entry.items back.items) }
-    // Each connection that it admitted has ended, and was sent what it is owed for all requests
-    // that its bytes read as; after a fault, a prefix of what it is owed for the first of them
-    // followed by the words that report the fault.
+    // Each connection that it admitted has ended, and was sent what it is owed, or a fault's words.
     ensures answered { IfOk result (λ back. All HasAnswered back.items) }
     // Each command that it announced is one request of one of these, in order, and none twice.
     ensures asked { IfOk result (λ back. AllZip HasBeenAsked workers.entry.items back.items) }
     // All workers are still of the log, so that they can meet.
     ensures logs { IfOk result
         (λ back. All (λ worker. worker.log.now ≡ log.entry.now) (map returned_worker back.items)) }
-    // One run of the log, from its opening, has all calls of these workers' seats, in order, and no
-    // other events of theirs.
+    // One run of the log, from its opening, has all their calls in order, and no others.
     ensures run { IfOk result (λ back. AreOnOneRun (map returned_worker back.items)) }
     // It began with the state.
     ensures begun { IfOk result (λ _. B.done begin.now state.old state.new) }
@@ -94,8 +91,7 @@ pub fn serve<'a, R: Threads + Wait + Net + Sync, G: Gate + Send + Drop, B: Begin
     mc_connections::laws::connections_are_answered_over_logs();
     mc_connections::laws::commands_are_asked_for_over_logs();
     let tenants = log.settings().tenants().len();
-    // No tenant has a reserve, the only log isn't closed before its last place, and nobody looks
-    // on.
+    // No tenant has a reserve, the only log is closed at its last place, and nobody looks on.
     let reserve = 0;
     let bytes = u64::MAX;
     let publishers = Vec::new(alloc);

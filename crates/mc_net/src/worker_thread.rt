@@ -22,5 +22,6 @@ pub(crate) struct WorkerThread<'a, G> {
 #[derive(Drop)]
 pub struct Returned<'a> {
     pub worker: Worker<'a>,
+    /// These connections, all of which have ended; for contracts only.
     pub ended: PastConnections,
 }

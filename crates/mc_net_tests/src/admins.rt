@@ -1,4 +1,4 @@
-//! An administrator over sockets beside a tenant, whose quotas it sets.
+//! An administrator over sockets next to a tenant, whose quotas it sets.
 use crate::clients::Act;
 use crate::visits::{QUOTAS, Visit, check};
 use std::test::Fail;

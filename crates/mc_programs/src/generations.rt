@@ -335,7 +335,7 @@ fn serve_next<R: Wait, T: TurnOver, I: Input, O: Output>(
     served
 }
 
-/// Serves the client over a log, and over up to `generations` logs in all, one after another.
+/// Serves the client over a log, and over up to `generations` logs in total, one after another.
 ///
 /// Returns the errors of `pump`.
 pub(crate) fn serve_logs<R: Wait, T: TurnOver, I: Input, O: Output>(

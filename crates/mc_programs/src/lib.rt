@@ -13,6 +13,7 @@ pub use mc_stream::{
     WriteOutput,
 };
 pub use mc_write::fault_text;
+pub use options::{DEFAULT_GENERATIONS, DEFAULT_PLACES, MAX_GENERATIONS};
 pub use schedule::run_schedule;
 pub use serving::serve_client;
 pub use stdin::run_stdin;

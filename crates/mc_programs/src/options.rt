@@ -12,14 +12,14 @@ use mc_model::Limits;
 use mc_model::settings::MAX_PLACES;
 use std::alloc::{AllocError, Global};
 
-/// How many places the log has by default.
-const DEFAULT_PLACES: u64 = 65_536;
+/// How many places a log has by default.
+pub const DEFAULT_PLACES: u64 = 65_536;
 
 /// How many logs there are by default, one after another.
-const DEFAULT_GENERATIONS: u64 = 1;
+pub const DEFAULT_GENERATIONS: u64 = 1;
 
-/// How many logs there may be, one after another.
-pub(crate) const MAX_GENERATIONS: u64 = 65_536;
+/// How many logs may be asked for, one after another; of wfmc 0 asks for logs without an end.
+pub const MAX_GENERATIONS: u64 = 65_536;
 
 /// How many items a tenant's table may hold by default.
 const DEFAULT_ITEMS: u64 = 1_048_576;

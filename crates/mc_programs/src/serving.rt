@@ -147,8 +147,7 @@ pub fn serve_client<R: Wait, T: TurnOver, I: Input, O: Output>(
     output: &mut O,
 ) -> Result<(), Fault>
     requires generations { 1 ≤ generations }
-    // How the service ends, from the bytes that came in to the bytes that went out, and which fault
-    // comes when; and why fewer logs served the client to its end, if fewer did.
+    // How the service ends, from what came in to what went out, and why if fewer logs served.
     ensures outcome { MatchResult result
         (λ _. ServesByLogs T.refused limits places generations
         (both (I.tells input.old) (O.tells output.old))

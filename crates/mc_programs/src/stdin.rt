@@ -42,8 +42,7 @@ pub fn run_stdin<R: Wait, T: TurnOver, I: Input, O: Output, E: Output>(
     output: &mut O,
     errors: &mut E,
 ) -> u8
-    // How the run ends, from the bytes that came in to the bytes that went out, by the quotas and
-    // the number of places that the words ask for.
+    // How the run ends, from what came in to what went out, by what the words ask for.
     ensures { StdinEnds T.refused (map string_bytes words.items) result
         (both (I.tells input.old) (O.tells output.old))
         (both (I.tells input.new) (O.tells output.new))

@@ -418,7 +418,7 @@ pub(crate) fn check_texts(
 }
 
 #[test]
-fn worked_rows_of_few_commands(rt: HostRuntime) -> Result<(), Fault> {
+fn golden_rows_of_few_commands(rt: HostRuntime) -> Result<(), Fault> {
     check_rows(
         &rt,
         Speaker::Tenant,
@@ -460,7 +460,7 @@ fn worked_rows_of_few_commands(rt: HostRuntime) -> Result<(), Fault> {
 }
 
 #[test]
-fn worked_rows_of_changes(rt: HostRuntime) -> Result<(), Fault> {
+fn golden_rows_of_changes(rt: HostRuntime) -> Result<(), Fault> {
     check_rows(
         &rt,
         Speaker::Tenant,
@@ -492,7 +492,7 @@ fn worked_rows_of_changes(rt: HostRuntime) -> Result<(), Fault> {
 /// The programs of these rows are given quotas, places or generations; the reader reads their input
 /// like any other.
 #[test]
-fn worked_rows_with_options(rt: HostRuntime) -> Result<(), Fault> {
+fn golden_rows_with_options(rt: HostRuntime) -> Result<(), Fault> {
     check_rows(
         &rt,
         Speaker::Tenant,
@@ -550,7 +550,16 @@ fn lines_that_name_a_block(rt: HostRuntime) -> Result<(), Fault> {
         |set a 4294967295 x\r\nCLIENT_ERROR bad command line format\r\nget a\r\n~\
         exptimes-of-other-verbs\
         |prepend a 0 -7 1 noreply\r\ny\r\nappend a 0 x 1\r\ny\r\nadd a 0 1 1\r\ny\r\nreplace a 0 1 1\r\ny\r\n\
-        |quiet prepend a 0 y\r\nCLIENT_ERROR bad command line format\r\nCLIENT_ERROR expiry is not supported\r\nCLIENT_ERROR expiry is not supported\r\n~\
+        |quiet prepend a 0 y\r\nCLIENT_ERROR bad command line format\r\nCLIENT_ERROR expiry is not supported\r\nCLIENT_ERROR expiry is not supported\r\n",
+    )
+}
+
+#[test]
+fn lines_of_cas(rt: HostRuntime) -> Result<(), Fault> {
+    check_rows(
+        &rt,
+        Speaker::Tenant,
+        "\
         greatest-unique\
         |cas a 3 0 1 18446744073709551615 noreply\r\ny\r\ncas a 0 0 1 18446744073709551616\r\ny\r\nget a\r\n\
         |quiet cas 18446744073709551615 a 3 y\r\nCLIENT_ERROR bad command line format\r\nget a\r\n~\

@@ -245,7 +245,7 @@ fn check_each_way(
 }
 
 #[test]
-fn serves_worked_streams(rt: HostRuntime) -> Result<(), Fault> {
+fn serves_golden_streams(rt: HostRuntime) -> Result<(), Fault> {
     for stream in &STREAMS {
         check_each_way(&rt, stream.0.as_bytes(), stream.1)?;
     }

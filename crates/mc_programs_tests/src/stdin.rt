@@ -156,66 +156,66 @@ fn check_rows(rt: &(impl AllocGlobal + Wait + Abort), rows: &str) -> Result<(), 
     Ok(())
 }
 
+/// Runs for `check_rows`, each of which shows one rule.
+const GOLDEN_RUNS: &str = "\
+    A stored value is given back with its flags and length\
+    |set a 5 0 3\r\nabc\r\nget a\r\n\
+    |STORED\r\nVALUE a 5 3\r\nabc\r\nEND\r\n~\
+    Gets shows the unique; empty data; an absent key gives no value\
+    |set e 0 0 0\r\n\r\ngets e x\r\n\
+    |STORED\r\nVALUE e 0 0 1\r\n\r\nEND\r\n~\
+    Line ends inside a data block do not end it\
+    |set k 0 0 7\r\n\r\nEND\r\n\r\nget k\r\n\
+    |STORED\r\nVALUE k 0 7\r\n\r\nEND\r\n\r\nEND\r\n~\
+    A block without its line end is refused; line, block and two bytes are consumed\
+    |set a 0 0 2\r\nabcde\r\n\
+    |CLIENT_ERROR bad data chunk\r\nERROR\r\n~\
+    Cas stores, finds another unique, finds no key\
+    |set a 0 0 1\r\nx\r\ncas a 0 0 1 1\r\ny\r\ncas a 0 0 1 1\r\nz\r\ncas b 0 0 1 1\r\nw\r\ngets a\r\n\
+    |STORED\r\nSTORED\r\nEXISTS\r\nNOT_FOUND\r\nVALUE a 0 1 2\r\ny\r\nEND\r\n~\
+    Incr wraps at 2^64, decr stops at 0 and does not pad\
+    |set n 7 0 20\r\n18446744073709551615\r\nincr n 1\r\nset n 0 0 1\r\n5\r\ndecr n 9\r\nset n 0 0 2\r\n10\r\ndecr n 1\r\ngets n\r\n\
+    |STORED\r\n0\r\nSTORED\r\n0\r\nSTORED\r\n9\r\nVALUE n 0 1 6\r\n9\r\nEND\r\n~\
+    A nonzero exptime is refused and its block swallowed; append ignores it and keeps the old flags\
+    |set a 0 60 3\r\nget\r\nget a\r\nset a 7 0 1\r\nx\r\nappend a 9 60 1\r\ny\r\ngets a\r\n\
+    |CLIENT_ERROR expiry is not supported\r\nEND\r\nSTORED\r\nSTORED\r\nVALUE a 7 2 2\r\nxy\r\nEND\r\n~\
+    Noreply sends nothing; delete takes an optional 0\
+    |set a 0 0 1\r\nx\r\nadd a 0 0 1 noreply\r\ny\r\ndelete a 0\r\ndelete a\r\n\
+    |STORED\r\nDELETED\r\nNOT_FOUND\r\n~\
+    An input that ends inside a block gives nothing\
+    |set a 0 0 3\r\nab\
+    |~\
+    A bad line with noreply is answered, and its block swallowed\
+    |set a x 0 1 noreply\r\ny\r\nget a\r\n\
+    |CLIENT_ERROR bad command line format\r\nEND\r\n~\
+    Where the length is unreadable the line alone is consumed\
+    |set a 0 0 x\r\nabc\r\n\
+    |CLIENT_ERROR bad command line format\r\nERROR\r\n~\
+    Unknown, empty, upper-case and short lines; runs of spaces; a bare line feed\
+    |stats\r\n\r\nGET a\r\nget\r\nget  a \n\
+    |ERROR\r\nERROR\r\nERROR\r\nERROR\r\nEND\r\n~\
+    Incr of a value above 2^64 - 1, by an unreadable delta, of an absent key\
+    |set n 0 0 20\r\n18446744073709551616\r\nincr n 1\r\nincr n x\r\nincr m 1\r\n\
+    |STORED\r\nCLIENT_ERROR cannot increment or decrement non-numeric value\r\nCLIENT_ERROR invalid numeric delta argument\r\nNOT_FOUND\r\n~\
+    Flush_all empties the table and does not reset the uniques; a key twice is answered twice\
+    |set a 0 0 1\r\nx\r\nflush_all 0\r\nappend a 0 0 1\r\ny\r\nset a 0 0 1\r\nz\r\ngets a a\r\n\
+    |STORED\r\nOK\r\nNOT_STORED\r\nSTORED\r\nVALUE a 0 1 2\r\nz\r\nVALUE a 0 1 2\r\nz\r\nEND\r\n~\
+    A refused expiry with noreply is quiet; nothing is read after quit\
+    |set a 0 9 1 noreply\r\nx\r\nversion\r\nquit\r\nversion\r\n\
+    |VERSION 1.0.0\r\n~\
+    Prepend keeps the old flags; replace of an absent and add of a held key store nothing\
+    |set p 4 0 2\r\nbc\r\nprepend p 9 0 1\r\na\r\nreplace q 0 0 1\r\nx\r\nadd p 0 0 1\r\nx\r\ngets p\r\n\
+    |STORED\r\nSTORED\r\nNOT_STORED\r\nNOT_STORED\r\nVALUE p 4 3 2\r\nabc\r\nEND\r\n~\
+    Wrong words of delete, flush_all, cas and incr, each with its refusal\
+    |delete a 1\r\nflush_all 5\r\nflush_all x\r\nflush_all noreply\r\ncas a 0 0 1 x\r\ny\r\nincr a\r\n\
+    |CLIENT_ERROR bad command line format\r\nCLIENT_ERROR expiry is not supported\r\nCLIENT_ERROR bad command line format\r\nCLIENT_ERROR bad command line format\r\nERROR\r\n~\
+    Append, prepend and incr on one item are seen joined\
+    |set n 3 0 1\r\n1\r\nappend n 0 0 1\r\n0\r\nprepend n 0 0 1\r\n2\r\nincr n 5\r\nappend n 0 0 2\r\nab\r\ngets n\r\n\
+    |STORED\r\nSTORED\r\nSTORED\r\n215\r\nSTORED\r\nVALUE n 3 5 5\r\n215ab\r\nEND\r\n";
+
 #[test]
-fn serves_worked_runs_however_they_are_cut(rt: HostRuntime) -> Result<(), AllocError> {
-    check_rows(
-        &rt,
-        "\
-        A stored value is given back with its flags and length\
-        |set a 5 0 3\r\nabc\r\nget a\r\n\
-        |STORED\r\nVALUE a 5 3\r\nabc\r\nEND\r\n~\
-        Gets shows the unique; empty data; an absent key gives no value\
-        |set e 0 0 0\r\n\r\ngets e x\r\n\
-        |STORED\r\nVALUE e 0 0 1\r\n\r\nEND\r\n~\
-        Line ends inside a data block do not end it\
-        |set k 0 0 7\r\n\r\nEND\r\n\r\nget k\r\n\
-        |STORED\r\nVALUE k 0 7\r\n\r\nEND\r\n\r\nEND\r\n~\
-        A block without its line end is refused; line, block and two bytes are consumed\
-        |set a 0 0 2\r\nabcde\r\n\
-        |CLIENT_ERROR bad data chunk\r\nERROR\r\n~\
-        Cas stores, finds another unique, finds no key\
-        |set a 0 0 1\r\nx\r\ncas a 0 0 1 1\r\ny\r\ncas a 0 0 1 1\r\nz\r\ncas b 0 0 1 1\r\nw\r\ngets a\r\n\
-        |STORED\r\nSTORED\r\nEXISTS\r\nNOT_FOUND\r\nVALUE a 0 1 2\r\ny\r\nEND\r\n~\
-        Incr wraps at 2^64, decr stops at 0 and does not pad\
-        |set n 7 0 20\r\n18446744073709551615\r\nincr n 1\r\nset n 0 0 1\r\n5\r\ndecr n 9\r\nset n 0 0 2\r\n10\r\ndecr n 1\r\ngets n\r\n\
-        |STORED\r\n0\r\nSTORED\r\n0\r\nSTORED\r\n9\r\nVALUE n 0 1 6\r\n9\r\nEND\r\n~\
-        A nonzero exptime is refused and its block swallowed; append ignores it and keeps the old flags\
-        |set a 0 60 3\r\nget\r\nget a\r\nset a 7 0 1\r\nx\r\nappend a 9 60 1\r\ny\r\ngets a\r\n\
-        |CLIENT_ERROR expiry is not supported\r\nEND\r\nSTORED\r\nSTORED\r\nVALUE a 7 2 2\r\nxy\r\nEND\r\n~\
-        Noreply sends nothing; delete takes an optional 0\
-        |set a 0 0 1\r\nx\r\nadd a 0 0 1 noreply\r\ny\r\ndelete a 0\r\ndelete a\r\n\
-        |STORED\r\nDELETED\r\nNOT_FOUND\r\n~\
-        An input that ends inside a block gives nothing\
-        |set a 0 0 3\r\nab\
-        |~\
-        A bad line with noreply is answered, and its block swallowed\
-        |set a x 0 1 noreply\r\ny\r\nget a\r\n\
-        |CLIENT_ERROR bad command line format\r\nEND\r\n~\
-        Where the length is unreadable the line alone is consumed\
-        |set a 0 0 x\r\nabc\r\n\
-        |CLIENT_ERROR bad command line format\r\nERROR\r\n~\
-        Unknown, empty, upper-case and short lines; runs of spaces; a bare line feed\
-        |stats\r\n\r\nGET a\r\nget\r\nget  a \n\
-        |ERROR\r\nERROR\r\nERROR\r\nERROR\r\nEND\r\n~\
-        Incr of a value above 2^64 - 1, by an unreadable delta, of an absent key\
-        |set n 0 0 20\r\n18446744073709551616\r\nincr n 1\r\nincr n x\r\nincr m 1\r\n\
-        |STORED\r\nCLIENT_ERROR cannot increment or decrement non-numeric value\r\nCLIENT_ERROR invalid numeric delta argument\r\nNOT_FOUND\r\n~\
-        Flush_all empties the table and does not reset the uniques; a key twice is answered twice\
-        |set a 0 0 1\r\nx\r\nflush_all 0\r\nappend a 0 0 1\r\ny\r\nset a 0 0 1\r\nz\r\ngets a a\r\n\
-        |STORED\r\nOK\r\nNOT_STORED\r\nSTORED\r\nVALUE a 0 1 2\r\nz\r\nVALUE a 0 1 2\r\nz\r\nEND\r\n~\
-        A refused expiry with noreply is quiet; nothing is read after quit\
-        |set a 0 9 1 noreply\r\nx\r\nversion\r\nquit\r\nversion\r\n\
-        |VERSION 1.0.0\r\n~\
-        Prepend keeps the old flags; replace of an absent and add of a held key store nothing\
-        |set p 4 0 2\r\nbc\r\nprepend p 9 0 1\r\na\r\nreplace q 0 0 1\r\nx\r\nadd p 0 0 1\r\nx\r\ngets p\r\n\
-        |STORED\r\nSTORED\r\nNOT_STORED\r\nNOT_STORED\r\nVALUE p 4 3 2\r\nabc\r\nEND\r\n~\
-        Wrong words of delete, flush_all, cas and incr, each with its refusal\
-        |delete a 1\r\nflush_all 5\r\nflush_all x\r\nflush_all noreply\r\ncas a 0 0 1 x\r\ny\r\nincr a\r\n\
-        |CLIENT_ERROR bad command line format\r\nCLIENT_ERROR expiry is not supported\r\nCLIENT_ERROR bad command line format\r\nCLIENT_ERROR bad command line format\r\nERROR\r\n~\
-        Append, prepend and incr on one item are seen joined\
-        |set n 3 0 1\r\n1\r\nappend n 0 0 1\r\n0\r\nprepend n 0 0 1\r\n2\r\nincr n 5\r\nappend n 0 0 2\r\nab\r\ngets n\r\n\
-        |STORED\r\nSTORED\r\nSTORED\r\n215\r\nSTORED\r\nVALUE n 3 5 5\r\n215ab\r\nEND\r\n",
-    )
+fn serves_golden_runs_however_they_are_cut(rt: HostRuntime) -> Result<(), AllocError> {
+    check_rows(&rt, GOLDEN_RUNS)
 }
 
 /// The words of runs, what a client sends, and the replies with which it is served.
@@ -226,8 +226,7 @@ const OPTIONS: [(&str, &str, &str); 5] = [
         "set a 0 0 1\r\nx\r\nset b 0 0 1\r\ny\r\nget a\r\nversion\r\n",
         "STORED\r\nSTORED\r\nSERVER_ERROR log full\r\nVERSION 1.0.0\r\n",
     ),
-    // A full log is followed by the next one, as many times as is asked for: uniques go on, and
-    // what holds of the first log's items holds in the second.
+    // The next log follows a full one, as often as is asked for: items and uniques go on.
     (
         "--places 2 --generations 3",
         "set a 0 0 1\r\nx\r\nset b 0 0 1\r\ny\r\ngets a b\r\ncas a 0 0 1 1\r\nz\r\ngets a\r\nincr c 1\r\nget a\r\nversion\r\n",
@@ -245,8 +244,7 @@ const OPTIONS: [(&str, &str, &str); 5] = [
         "set n 0 0 1\r\n9\r\nincr n 1\r\ndecr n 1\r\n",
         "STORED\r\nSERVER_ERROR out of memory storing object\r\n8\r\n",
     ),
-    // The quota of bytes counts keys and data; a refused set keeps the old item and uses no
-    // unique.
+    // The quota of bytes counts keys and data; a refused set keeps the item and uses no unique.
     (
         "--bytes 4",
         "set ab 0 0 2\r\nxy\r\nset ab 0 0 3\r\nxyz\r\nreplace ab 0 0 1\r\nx\r\nset c 0 0 1\r\ny\r\ndelete ab\r\nset c 0 0 3\r\nyyy\r\ngets ab c\r\n",
@@ -255,7 +253,7 @@ const OPTIONS: [(&str, &str, &str); 5] = [
 ];
 
 #[test]
-fn serves_worked_runs_under_options(rt: HostRuntime) -> Result<(), AllocError> {
+fn serves_golden_runs_under_options(rt: HostRuntime) -> Result<(), AllocError> {
     for row in &OPTIONS {
         check_served(&rt, row.0, row.1.as_bytes(), row.2.as_bytes())?;
     }
@@ -314,8 +312,7 @@ fn a_line_has_at_most_65_536_bytes(rt: HostRuntime) -> Result<(), AllocError> {
     check_texts(&rt, sent, replies)
 }
 
-// With a byte a pull this is quick as the gate runs it; under `rt try` it takes more than its
-// minute.
+// With a byte a pull this is quick in the gate; under `rt try` it takes more than its minute.
 #[test]
 fn data_have_at_most_1_048_576_bytes(rt: HostRuntime) -> Result<(), AllocError> {
     let sent = Text {

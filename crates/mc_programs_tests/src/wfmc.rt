@@ -92,7 +92,7 @@ Options:
       --log-bytes <N>    After how many bytes of commands the next log follows, up to 1099511627776 [default: 1073741824]
       --reserve <N>      How many of its 1024 connections each thread keeps for each tenant [default: 0]
       --connections <N>  After how many connections of tenants it ends; 0 for never [default: 0]
-      --check            Checks whether the words can be served, reports the first that can't, and serves nothing
+      --check            Checks whether the words can be served, reports one that can't, and serves nothing
       --admin <ADDR>     At which IPv4 address and port administrators connect; without it there are none
       --metrics <ADDR>   At which IPv4 address and port metrics are scraped by HTTP; without it they aren't
   -h, --help             Print help
@@ -110,9 +110,10 @@ With --check wfmc says which word that is, and serves nothing.
 
 With --admin, whoever connects at ADDR may set a tenant's quotas: limit NAME ITEMS BYTES.
 With --metrics, whoever connects at ADDR may read numbers of all tenants: GET /metrics, by HTTP.
+Once the last log is full commands are refused until a restart; --generations 0 has no last one.
 
 Example, two tenants apart from each other on two ports:
-  wfmc shop=127.0.0.1:11211,1000,1048576 blog=127.0.0.1:11212,1000,1048576
+  wfmc --generations 0 shop=127.0.0.1:11211,1000,1048576 blog=127.0.0.1:11212,1000,1048576
 ";
 
 const SHOWN: [(&str, &str); 3] = [
@@ -194,7 +195,7 @@ const MISTAKES: [(&str, &str); 8] = [
 ];
 
 #[test]
-fn mistakes_are_told_by_clap(rt: HostRuntime) -> Result<(), AllocError> {
+fn mistakes_are_reported_by_clap(rt: HostRuntime) -> Result<(), AllocError> {
     for row in &MISTAKES {
         check_told(&rt, row.0, 2, row.1)?;
     }
@@ -450,7 +451,7 @@ const UNREACHABLE: [(&str, &str); 11] = [
 ];
 
 #[test]
-fn the_first_address_that_cannot_be_listened_at_is_told(rt: HostRuntime) -> Result<(), AllocError> {
+fn the_first_address_that_cannot_be_bound_is_reported(rt: HostRuntime) -> Result<(), AllocError> {
     for row in &UNREACHABLE {
         check_told(&rt, row.0, 1, row.1)?;
     }

@@ -311,8 +311,7 @@ const RUNS: [Run; 9] = [
         ],
         left: Some((4, 1)),
     },
-    // Keys and data count, before a change and after it, and a refused change leaves the item and
-    // its unique.
+    // Keys and data count, before a change and after; a refused one leaves item and unique.
     Run {
         name: "quota of bytes",
         quotas: Limits { items: 3, bytes: 4 },

@@ -97,8 +97,7 @@ const ROWS: [Row<'static>; 5] = [
             worker 1 idle learned 2 replayed 2 proposals 1\n\
             worker 2 idle learned 4 replayed 4 proposals 1\n",
     },
-    // This log agrees for its tenant with that of `three_workers_two_tenants` for the first of its
-    // two, and the replies to the tenant's commands are the same.
+    // It agrees with the log "three workers two tenants" for the first tenant, and so do replies.
     Row {
         name: "agreeing logs answer alike",
         size: (1, 4),

@@ -12,12 +12,36 @@ use std::hash::RandomState;
 use std::io;
 use std::process::ExitCode;
 
+/// The names of the example's tenants.
+const NAMES: [&[u8]; 20] = [
+    b"shop", b"b-2_x", b"t3", b"t4", b"t5", b"t6", b"t7", b"t8", b"t9", b"t10", b"t11", b"t12",
+    b"t13", b"t14", b"t15", b"t16", b"t17", b"t18", b"t19", b"t20",
+];
+
+/// How many workers the example has.
+const WORKERS: u64 = 16;
+
+/// Returns a number as far below the largest number as this one is above 0.
+fn below_largest(number: u64) -> u64 {
+    u64::MAX.saturating_sub(number)
+}
+
+/// Returns so many times a unit, or for every third unit a number as far below the largest.
+fn times(unit: u64, count: u64) -> u64 {
+    let number = unit.saturating_mul(count);
+    if unit % 3 == 0 {
+        below_largest(number)
+    } else {
+        number
+    }
+}
+
 /// Returns a tally of `unit` commands of the first kind, twice as many of the second and so on, and
-/// likewise of refusals, from 20 times as many of the first kind on.
-fn tally_of(unit: usize) -> Tally {
+/// likewise of refusals, from 20 times as many of the first kind on; each as `times` has it.
+fn tally_of(unit: u64) -> Tally {
     let mut tally = Tally::new();
     for (place, kind) in COMMAND_KINDS.iter().enumerate() {
-        for _ in 0..unit.saturating_mul(place + 1) {
+        for _ in 0..place + 1 {
             let asked = Asked {
                 kind: *kind,
                 keys: 0,
@@ -26,61 +50,65 @@ fn tally_of(unit: usize) -> Tally {
         }
     }
     for (place, refusal) in REFUSAL_KINDS.iter().enumerate() {
-        for _ in 0..unit.saturating_mul(place + 20) {
+        for _ in 0..place + 20 {
             tally.count(&None, &Reply::Refused(*refusal));
         }
     }
+    for count in tally.commands.iter_mut() {
+        *count = times(unit, *count);
+    }
+    for count in tally.refusals.iter_mut() {
+        *count = times(unit, *count);
+    }
+    tally.hits = times(unit, 3);
+    tally.misses = times(unit, 4);
     tally
 }
 
-/// Returns a tenant of this name, whose numbers are multiples of one; its hits are as many below the
-/// largest number.
+/// Returns a tenant of this name, whose numbers are those that `times` has for its unit.
 fn tenant(alloc: Global, name: &[u8], unit: u64) -> io::Result<TenantNumbers> {
     let Ok(Some(name)) = Name::new(alloc, name) else {
         return Err(io::ErrorKind::OutOfMemory.into());
     };
-    let mut tally = tally_of(unit as usize);
-    tally.hits = u64::MAX.saturating_sub(unit);
-    tally.misses = unit.saturating_mul(4);
     Ok(TenantNumbers {
         name,
-        items: unit.saturating_mul(5),
-        bytes: unit.saturating_mul(600),
+        items: times(unit, 5),
+        bytes: times(unit, 600),
         quotas: Limits {
-            items: unit.saturating_mul(7_000),
-            bytes: unit.saturating_mul(80_000),
+            items: times(unit, 7_000),
+            bytes: times(unit, 80_000),
         },
-        connections: unit.saturating_mul(9),
-        tally,
+        connections: times(unit, 9),
+        tally: tally_of(unit),
     })
 }
 
-/// Returns the example: two tenants, and two workers, of which the second lags behind.
+/// Returns the example: tenants of the units from 1 on, workers alike, and logs whose numbers are
+/// near the largest.
 fn example(alloc: Global) -> io::Result<Snapshot> {
     let mut tenants = Vec::new(alloc);
-    tenants.push(tenant(alloc, b"shop", 1)?)?;
-    tenants.push(tenant(alloc, b"b-2_x", 2)?)?;
+    for (place, name) in NAMES.iter().enumerate() {
+        tenants.push(tenant(alloc, name, (place as u64).saturating_add(1))?)?;
+    }
     let mut workers = Vec::new(alloc);
-    workers.push(WorkerNumbers {
-        number: 0,
-        lag: 0,
-        connections: 13,
-    })?;
-    workers.push(WorkerNumbers {
-        number: 1,
-        lag: 42,
-        connections: 14,
-    })?;
+    for number in 0..WORKERS {
+        let unit = number.saturating_add(1);
+        workers.push(WorkerNumbers {
+            number,
+            lag: times(unit, 42),
+            connections: times(unit, 13),
+        })?;
+    }
     Ok(Snapshot {
         tenants,
         workers,
         log: LogNumbers {
-            places: 65_536,
-            used_places: 1_234,
-            bytes: 567_890,
-            generation: 3,
-            turn_overs: 2,
-            turn_over_micros: 4_321_098_765,
+            places: below_largest(1_234),
+            used_places: below_largest(65_536),
+            bytes: below_largest(567_890),
+            generation: below_largest(2),
+            turn_overs: below_largest(3),
+            turn_over_micros: 9_223_372_036_854_098_765,
         },
         resident_bytes: Some(u64::MAX),
     })

@@ -10,6 +10,7 @@ use mio::{Events, Interest, Poll, Token, Waker};
 use std::alloc::Global;
 use std::fs::Files;
 use std::hash::RandomState;
+use std::io::ErrorKind;
 use std::net::Net;
 use std::sync::Wait;
 use std::sync::atomic::{AtomicBool, Ordering};
@@ -24,8 +25,8 @@ const MOST_SECONDS: u64 = 10;
 /// How many events a poll reports at most.
 const EVENTS: usize = 64;
 
-/// How long a poll waits at most while there are connections, in milliseconds, so that they are
-/// closed in time.
+/// How long a poll waits at most while there are connections, so that they are closed in time, or
+/// the listener failed, in milliseconds.
 const TICK_MILLIS: u64 = 1_000;
 
 /// The token of the listener, after those of the connections.
@@ -57,6 +58,8 @@ pub struct Scraper {
     poll: Poll,
     events: Events,
     visits: Vec<Option<Visit>>,
+    // The listener failed, and is to be asked again even if no event reports it.
+    is_troubled: bool,
     // By these the fields of requests are hashed, whose names clients choose.
     keys: RandomState,
     alloc: Global,
@@ -96,6 +99,7 @@ pub fn new_scraper<R: Net>(
         poll,
         events: Events::with_capacity(alloc, EVENTS)?,
         visits,
+        is_troubled: false,
         keys,
         alloc,
     };
@@ -119,19 +123,26 @@ fn is_ready(events: &Events, place: usize, visit: &Option<Visit>) -> bool {
 
 impl Scraper {
     /// Accepts the streams that wait, as far as there are places for them. A stream that can't be
-    /// registered is closed.
+    /// registered is closed. A listener that fails is noted to be asked again.
     fn accept_waiting(&mut self, now: Instant) {
+        self.is_troubled = false;
         for (place, visit) in self.visits.iter_mut().enumerate() {
             if visit.is_some() {
                 continue;
             }
-            let Ok((mut stream, _)) = self.listener.accept() else {
-                return;
+            let mut stream = match self.listener.accept() {
+                Ok((stream, _)) => stream,
+                Err(error) => {
+                    self.is_troubled = error.kind() != ErrorKind::WouldBlock;
+                    return;
+                }
             };
             let both = Interest::READABLE | Interest::WRITABLE;
             let registry = self.poll.registry();
             if registry.register(&mut stream, Token(place), both).is_ok() {
                 *visit = Some(Visit::new(self.alloc, self.keys, stream, now));
+            } else {
+                self.is_troubled = true;
             }
         }
     }
@@ -185,19 +196,19 @@ impl Scraper {
     }
 
     /// Returns how long a poll may wait: not at all if a connection is to be served without an
-    /// event, a second if there are connections, so that they are closed in time, and otherwise
-    /// until an event comes.
+    /// event, a second if there are connections, so that they are closed in time, or if the
+    /// listener failed, and otherwise until an event comes.
     fn timeout(&self) -> Option<Duration> {
         let mut visits = self.visits.iter().flatten();
         if visits.any(|visit| visit.has_more) {
             return Some(Duration::ZERO);
         }
         let is_idle = self.visits.iter().all(|visit| visit.is_none());
-        (!is_idle).then_some(Duration::from_millis(TICK_MILLIS))
+        (!is_idle || self.is_troubled).then_some(Duration::from_millis(TICK_MILLIS))
     }
 
-    /// Polls once, serves the connections that are ready, closes those that have had
-    /// their time, and accepts others.
+    /// Polls once, serves the connections that are ready, closes those that have had their time,
+    /// and accepts others.
     ///
     /// Returns `Input` if the poll or the clock fails.
     fn make_round<R: Clock + Files>(&mut self, rt: &R) -> Result<(), Fault> {

@@ -11,6 +11,5 @@ pub mod OwnOrder
 mod NetworkRows
 pub mod TenantForms
 pub mod TenantLists
-pub mod TenantNames
 pub mod TenantParts
 pub mod Waited

@@ -67,9 +67,6 @@ names_lawful [] (t ∷ ts) h = absurd h
 names_lawful (w ∷ ws) [] h = All-nil (λ (tenant : Tenant). IsTrue (is_lawful_name tenant.name.now))
 names_lawful (w ∷ ws) (t ∷ ts) h = All-cons (λ (tenant : Tenant). IsTrue (is_lawful_name tenant.name.now)) t ts h.0.says.is_name (names_lawful ws ts h.1)
 
-pub names_are : (asked : NetworkAsked) (tenants : List Tenant) → asked.tenants ≡ map asked_of tenants → map (λ tenant. tenant.name) asked.tenants ≡ map (λ tenant. tenant.name.now) tenants
-names_are asked tenants e = ap (map (λ tenant. tenant.name)) e ∙ names_are_read tenants
-
 pub settings_are : (given : NetworkGiven) (asked : NetworkAsked) (tenants : List Tenant) (workers : ℕ) (quotas : List Limits) → Asks given asked → asked.tenants ≡ map asked_of tenants
     → workers ≡ workers_for given → quotas ≡ map (λ tenant. tenant.limits) tenants → settings_asked asked ≡ record { workers = workers; places = given.places; tenants = quotas }
 settings_are given asked tenants workers quotas asks e w q =

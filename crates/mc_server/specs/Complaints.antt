@@ -21,7 +21,8 @@ use Rattle.mc_server.specs.declared.complaint.Counted.{Counted}
 use Rattle.mc_server.specs.declared.complaint.Counted.TheVariants.{Generations, LogBytes, Places, Tenants, Workers}
 use Rattle.mc_server.specs.declared.complaint.Part.{Part}
 use Rattle.mc_server.specs.declared.complaint.Part.TheVariants.{Address, Bytes, Form, Items, Name}
-use Rattle.mc_server.specs.declared.network_words.TheConstants.{MAX_GENERATIONS, MAX_LOG_BYTES}
+use Rattle.mc_programs.specs.declared.options.TheConstants.{MAX_GENERATIONS}
+use Rattle.mc_server.specs.declared.network_words.TheConstants.{MAX_LOG_BYTES}
 
 -- how many are given
 abbrev pub given_number : NetworkGiven → Counted → ℕ

@@ -18,7 +18,8 @@ use Rattle.mc_server.specs.TenantWord.{Says, TenantAsked, asked_of}
 use Rattle.mc_programs.specs.Words.{bare_app, flag_asked, flag_rule, number_asked, number_rule}
 use Rattle.mc_server.specs.declared.network_words.NetworkWords.{NetworkWords}
 use Rattle.mc_server.specs.declared.network_words.Service.{Service}
-use Rattle.mc_server.specs.declared.network_words.TheConstants.{MAX_GENERATIONS, MAX_LOG_BYTES}
+use Rattle.mc_programs.specs.declared.options.TheConstants.{MAX_GENERATIONS}
+use Rattle.mc_server.specs.declared.network_words.TheConstants.{MAX_LOG_BYTES}
 use Rattle.mc_server.specs.declared.tenant_word.Tenant.{Tenant}
 
 -- the positional words, one for each tenant, of which there has to be at least one

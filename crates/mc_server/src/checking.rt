@@ -5,6 +5,7 @@ ghost use Rattle.mc_server.specs.Checking.{ChecksWords};
 ghost use Rattle.mc_server.specs.NetworkWords.{given_in};
 
 use crate::complaint::{AddressOption, Complaint, Counted, Part, check};
+use crate::network_texts::NAME;
 use crate::network_words::NetworkWords;
 use mc_model::Fault;
 use mc_programs::{fail, push_all};
@@ -105,11 +106,11 @@ pub(crate) fn check_words<R: Wait, O: Output, E: Output>(
     let Err(complaint) = check(given) else {
         return match push_all(rt, b"wfmc: the settings can be served\n", output) {
             Ok(()) => 0,
-            Err(fault) => fail(rt, b"wfmc", fault, errors),
+            Err(fault) => fail(rt, NAME, fault, errors),
         };
     };
     let Ok(line) = complaint_line(alloc, complaint) else {
-        return fail(rt, b"wfmc", Fault::Memory, errors);
+        return fail(rt, NAME, Fault::Memory, errors);
     };
     let _ = push_all(rt, line.as_bytes(), errors);
     2

@@ -5,15 +5,17 @@ ghost use Rattle.std.specs.Prelude.{◌≡◌, ◌↔◌, All, IsTrue, MatchResu
 ghost use Rattle.std.specs.Str.{bytes_eq};
 ghost use Rattle.std.specs.declared.net.socket_addr.SocketAddrV4.{SocketAddrV4};
 ghost use Rattle.mc_model.specs.Settings.{IsBetween};
+ghost use Rattle.mc_model.specs.declared.fault.Fault.TheVariants.{BadSettings};
 ghost use Rattle.mc_server.specs.Complaints.{CanBeServed, FitsAlone, IsWrong, IsWrongPart, SpellsQuota, StandsTwice, given_address, given_number, least, most, name_part, names_given};
 ghost use Rattle.mc_server.specs.NetworkWords.{AreReservesWithin, NetworkGiven, SpellsAddress, given_in};
 
 use crate::network_texts::{ADMIN, METRICS};
-use crate::network_words::{MAX_GENERATIONS, MAX_LOG_BYTES, NetworkWords, are_reserves_within};
+use crate::network_words::{MAX_LOG_BYTES, NetworkWords, are_reserves_within};
 use crate::tenant_word::{cut, read_number};
-use mc_model::Name;
 use mc_model::id::{TENANTS, WORKERS};
 use mc_model::settings::{MAX_BYTES, MAX_ITEMS, MAX_PLACES};
+use mc_model::{Fault, Name};
+use mc_programs::MAX_GENERATIONS;
 use std::net::SocketAddrV4;
 
 /// What a number of the command line counts.
@@ -57,6 +59,14 @@ pub(crate) enum Complaint<'a> {
     WrongPart(&'a str, Part),
     /// Two tenants have this name, or a tenant and the listener of administrators or of metrics.
     NameTaken(&'a str),
+}
+
+impl From<Complaint<'_>> for Fault {
+    ghost from_gives = { λ _ fault. fault ≡ BadSettings };
+
+    fn from(_complaint: Complaint<'_>) -> Fault {
+        Fault::BadSettings
+    }
 }
 
 impl Counted {

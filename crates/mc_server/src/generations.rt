@@ -125,9 +125,9 @@ fn serve_part<'a, R: Threads + Wait + Sync, B: Begin<S>, S>(
     front.serve_generation(rt, alloc, log, workers, gates, is_last, begin, state)
 }
 
-/// Serves a log with these workers until every connection has ended, or until it is closed and the
-/// next one is opened, of which the watch is notified. Where none can follow, its workers go on to
-/// the end: commands after its last place are answered `SERVER_ERROR log full`.
+/// Serves a log with these workers until every connection has ended, or until it is closed, which
+/// the watch is notified of, and the next one is opened. Where none can follow, its workers go on
+/// to the end: commands after its last place are answered `SERVER_ERROR log full`.
 ///
 /// Returns the errors of `serve_part`.
 fn serve_log<'a, R: Threads + Wait + Clock + Sync, B: Begin<S>, S>(
@@ -260,7 +260,7 @@ fn serve_next<R: Threads + Wait + Clock + Sync>(
 }
 
 /// How many places of earlier logs are used in total at most before the last one begins, so that
-/// the number of all that are used has 64 bits.
+/// the number of all that are used has 64 bits: four logs' places less than these can hold.
 const MOST_PLACES: u64 = u64::MAX - 4_194_304;
 
 /// Returns whether the log of this number, counted from 1, is the last one of `most` logs (0: no
@@ -273,8 +273,8 @@ fn is_last_log(most: u64, number: u64, total: u64) -> bool
 }
 
 /// Serves logs one after another at a front at which nobody has been served yet, `most` at most (0:
-/// without an end), the first of which is this one. The watch is notified of the beginning and the
-/// end of each. Returns how many places were used in total.
+/// without an end), the first of which is this one. The watch is notified when each begins and when
+/// one is closed before the last. Returns how many places were used in total.
 ///
 /// Returns the errors of `serve_log`.
 pub(crate) fn serve_logs<R: Threads + Wait + Clock + Sync, B: Begin<S>, S>(

@@ -7,7 +7,8 @@ ghost use Rattle.mc_server.specs.CoreRuns.{AnnouncesInServedOrder, ClosedLogsAre
 ghost use Rattle.mc_server.specs.Listeners.{clients_asked, roles_asked};
 ghost use Rattle.mc_server.specs.NetworkWords.{NetworkAsked, NetworkGiven, admin_name, settings_asked, workers_for};
 ghost use Rattle.mc_server.specs.TenantWord.{TenantAsked};
-ghost use Rattle.mc_server.specs.declared.network_words.TheConstants.{MAX_GENERATIONS, MAX_LOG_BYTES};
+ghost use Rattle.mc_programs.specs.declared.options.TheConstants.{MAX_GENERATIONS};
+ghost use Rattle.mc_server.specs.declared.network_words.TheConstants.{MAX_LOG_BYTES};
 
 /// At most 65,536 logs may be asked for, one after another, and at most 1,099,511,627,776 bytes of
 /// a log's commands.

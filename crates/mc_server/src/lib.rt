@@ -1,12 +1,8 @@
 //! The server for several tenants: `run_wfmc` reads the words, binds the listeners, opens the log,
-//! serves and reports, as `specs/Network.antt` says. The programs over streams are re-exported.
+//! serves and reports, as `specs/Network.antt` says. What its program needs besides is re-exported.
 #![tactic(auto)]
 
-pub use mc_programs::{
-    Input, InputStep, MemoryInput, MemoryOutput, Output, OutputStep, Pull, Push, ReadInput,
-    TurnOver, TurnOverAlone, WriteOutput, fail, fault_text, random_hashing, refuse_words,
-    run_schedule, run_stdin, serve_client, words_after_name,
-};
+pub use mc_programs::{WriteOutput, fail, random_hashing, refuse_words, words_after_name};
 pub use network::run_wfmc;
 
 mod announcement;

@@ -12,7 +12,7 @@ use crate::announcement::Announcement;
 use crate::checking::check_words;
 use crate::generations::serve_logs;
 use crate::listeners::{Listeners, Stop, bind_all, bind_metrics};
-use crate::network_texts::{ready_text, tell_cannot_listen, tell_done};
+use crate::network_texts::{NAME, ready_text, tell_cannot_listen, tell_done};
 use crate::network_words::{Service, read_words, service_of};
 use crate::scraping::{LogWatch, Scraping, Shows, new_shows};
 use crate::wanted::wanted_by;
@@ -30,9 +30,6 @@ use std::thread::{Threads, join_mut};
 use std::time::Clock;
 use uc_log::Log;
 use uc_worker::Hashing;
-
-/// The program's name, the prefix of its messages.
-const NAME: &[u8] = b"wfmc";
 
 /// Opens the first log, and serves that and those after it at the front, as `serve_logs` does.
 ///
@@ -143,9 +140,9 @@ where
 /// has begun it prints which listener is at which address, and at the end how many places of all
 /// logs were used.
 ///
-/// Returns `Memory` if memory runs out or a worker's loop doesn't begin, `Input` if waiting for
-/// connections fails or the listener for metrics can't be registered, and `Output` if the output
-/// fails.
+/// Returns `Memory` if memory runs out or a worker's loop doesn't begin, `Input` if a poll can't be
+/// made or fails, a listener can't be registered or random numbers are refused, and `Output` if the
+/// output fails.
 fn serve_tenants<R, O: Output>(
     rt: &R,
     alloc: Global,

@@ -12,6 +12,9 @@ use std::alloc::{AllocError, Global};
 use std::net::SocketAddrV4;
 use std::sync::Wait;
 
+/// The program's name, the prefix of its messages.
+pub(crate) const NAME: &[u8] = b"wfmc";
+
 /// The name of the administrators' listener.
 pub(crate) const ADMIN: &str = "admin";
 

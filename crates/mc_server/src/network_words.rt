@@ -1,35 +1,23 @@
 //! The options and tenants of wfmc's command line.
-ghost use Rattle.std.specs.List.{AllZip, IsDistinct, list_any};
-ghost use Rattle.std.specs.Prelude.{◌≡◌, ◌≤◌, ◌++◌, ◌↔◌, ◌⊎◌, List, IfOk, IsTrue, MatchResult, false, map, not, string_bytes, true, vec_len};
-ghost use Rattle.std.specs.Option.{MatchOption, option_map};
-ghost use Rattle.std.specs.Str.{bytes_eq};
+ghost use Rattle.std.specs.List.{AllZip};
+ghost use Rattle.std.specs.Prelude.{◌≡◌, ◌↔◌, ◌⊎◌, List, IfOk, IsTrue, MatchResult, false, map, string_bytes};
+ghost use Rattle.std.specs.Option.{option_map};
 ghost use Rattle.clap.specs.Words.{HasKind, app_of, fault_of, rule_of};
-ghost use Rattle.mc_model.specs.Settings.{IsBetween};
 ghost use Rattle.mc_model.specs.declared.fault.Fault.TheVariants as faults;
-ghost use Rattle.mc_server.specs.NetworkWords.{AreReservesWithin, Asks, WordsGive, AsksInVain, IsChecked, IsNoAddress, IsOnlyAddress, admin_rule, given_in, logs_app, metrics_rule, network_app, numbers_app, options_app, reserved_names, served_by, tenants_rule, workers_for};
+ghost use Rattle.mc_server.specs.NetworkWords.{AreReservesWithin, Asks, WordsGive, AsksInVain, IsChecked, IsNoAddress, IsOnlyAddress, admin_rule, given_in, logs_app, metrics_rule, network_app, numbers_app, options_app, served_by, tenants_rule, workers_for};
 ghost use Rattle.mc_server.specs.TenantWord.{IsOnly, Says, TenantAsked, asked_of};
 
-use crate::network_texts::{ADMIN, METRICS};
+use crate::complaint::check;
 use crate::tenant_word::{Tenant, read_tenant};
 use clap::{Arg, Command, Error};
 use mc_connections::MOST_CONNECTIONS;
-use mc_model::id::WORKERS;
 use mc_model::{Fault, Limits, Settings};
-use mc_programs::{flag, flag_option, number, number_option};
+use mc_programs::{DEFAULT_GENERATIONS, DEFAULT_PLACES, flag, flag_option, number, number_option};
 use std::alloc::{AllocError, Global};
 use std::net::SocketAddrV4;
 
 /// How many workers there are by default.
 const DEFAULT_WORKERS: u64 = 2;
-
-/// How many places the log has by default.
-const DEFAULT_PLACES: u64 = 65_536;
-
-/// How many logs there are by default, one after another.
-const DEFAULT_GENERATIONS: u64 = 1;
-
-/// How many logs may be asked for, one after another; 0 asks for logs without an end.
-pub(crate) const MAX_GENERATIONS: u64 = 65_536;
 
 /// How many bytes the commands of a log may keep by default: 1 GiB.
 const DEFAULT_LOG_BYTES: u64 = 1_073_741_824;
@@ -58,9 +46,10 @@ With --check wfmc says which word that is, and serves nothing.
 
 With --admin, whoever connects at ADDR may set a tenant's quotas: limit NAME ITEMS BYTES.
 With --metrics, whoever connects at ADDR may read numbers of all tenants: GET /metrics, by HTTP.
+Once the last log is full commands are refused until a restart; --generations 0 has no last one.
 
 Example, two tenants apart from each other on two ports:
-  wfmc shop=127.0.0.1:11211,1000,1048576 blog=127.0.0.1:11212,1000,1048576";
+  wfmc --generations 0 shop=127.0.0.1:11211,1000,1048576 blog=127.0.0.1:11212,1000,1048576";
 
 /// What the words of wfmc give: numbers, or their defaults, what is written for the administrators'
 /// address and for that of metrics, and the tenants' words in their order.
@@ -177,7 +166,7 @@ fn options_command<'a>(alloc: Global) -> Result<Command<'a>, AllocError>
     ensures { IfOk result (λ command. app_of command ≡ options_app) }
 {
     let check =
-        "Checks whether the words can be served, reports the first that can't, and serves nothing";
+        "Checks whether the words can be served, reports one that can't, and serves nothing";
     numbers_command(alloc)?
         .arg(flag_option(alloc, "check", check))?
         .arg(admin_option(alloc))?
@@ -254,50 +243,6 @@ fn read_address(word: Option<&str>) -> Result<Option<SocketAddrV4>, Fault>
     }
 }
 
-/// Returns whether a tenant has this name.
-fn has_name(tenants: &[Tenant], name: &str) -> bool
-    ensures { result ≡ list_any (λ tenant. bytes_eq name.now tenant.name.now) tenants.now }
-{
-    tenants.iter().any(|tenant| name == tenant.name)
-}
-
-/// Returns whether no tenant has the name of another.
-fn have_own_names(tenants: &[Tenant]) -> bool
-    ensures { IsTrue result ↔ IsDistinct bytes_eq (map (λ tenant. tenant.name.now) tenants.now) }
-{
-    match tenants {
-        [] => true,
-        [first, rest @ ..] => !has_name(rest, first.name) && have_own_names(rest),
-    }
-}
-
-/// Returns whether no tenant has the name of a listener, if there is to be that one.
-fn is_name_free(address: Option<SocketAddrV4>, tenants: &[Tenant], name: &str) -> bool
-    ensures { MatchOption address (result ≡ true)
-        (λ _. result ≡ not (list_any (λ tenant. bytes_eq name.now tenant.name.now) tenants.now)) }
-{
-    match address {
-        Some(_) => !has_name(tenants, name),
-        None => true,
-    }
-}
-
-/// Returns whether no name is used twice: with administrators none of the tenants is `admin`, and
-/// with metrics none is `metrics`.
-fn are_names_free(
-    admin: Option<SocketAddrV4>,
-    metrics: Option<SocketAddrV4>,
-    tenants: &[Tenant],
-) -> bool
-    ensures { IsTrue result ↔ IsDistinct bytes_eq
-        (reserved_names admin metrics ++ map (λ tenant. tenant.name.now) tenants.now) }
-{
-    let is_free = is_name_free(admin, tenants, ADMIN);
-    let are_free = is_name_free(metrics, tenants, METRICS);
-    let are_own = have_own_names(tenants);
-    is_free && are_free && are_own
-}
-
 /// Returns the tenants' quotas, in the tenants' order.
 ///
 /// Returns an error if memory runs out.
@@ -312,21 +257,6 @@ pub(crate) fn are_reserves_within(reserve: u64, tenants: usize) -> bool
     ensures { IsTrue result ↔ AreReservesWithin reserve tenants }
 {
     reserve.saturating_mul(tenants as u64) <= MOST_CONNECTIONS as u64
-}
-
-/// Returns whether no more workers and logs are given than there may be, as many bytes of a log as
-/// may be asked for, and reserves for which a worker has places enough. What else a number must be,
-/// `Settings::check` says.
-fn are_in_bounds(words: &NetworkWords) -> bool
-    ensures { IsTrue result ↔ (words.now.workers ≤ WORKERS)
-        × (words.now.generations ≤ MAX_GENERATIONS)
-        × IsBetween 1 MAX_LOG_BYTES words.now.log_bytes
-        × AreReservesWithin words.now.reserve (vec_len words.now.tenants) }
-{
-    words.workers <= u64::from(WORKERS)
-        && words.generations <= MAX_GENERATIONS
-        && (1..=MAX_LOG_BYTES).contains(&words.log_bytes)
-        && are_reserves_within(words.reserve, words.tenants.len())
 }
 
 /// Returns how many workers serve: as many as are given, but where a log may follow another no more
@@ -351,18 +281,12 @@ pub(crate) fn service_of<'a>(alloc: Global, words: &NetworkWords<'a>) -> Result<
         (λ fault. (fault ≡ faults.Memory)
         ⊎ (fault ≡ faults.BadSettings) × AsksInVain (given_in words.now)) }
 {
+    check(words)?;
     let tenants = read_tenants(alloc, &words.tenants)?;
     let admin = read_address(words.admin)?;
     let metrics = read_address(words.metrics)?;
-    if !are_in_bounds(words) {
-        return Err(Fault::BadSettings);
-    }
     let quotas = quotas_of(alloc, &tenants)?;
     let settings = Settings::check(workers_for(words), words.places, quotas)?;
-    // `Settings::check` has bounded the number of names that are compared here.
-    if !are_names_free(admin, metrics, &tenants) {
-        return Err(Fault::BadSettings);
-    }
     Ok(Service {
         settings,
         generations: words.generations,

@@ -22,8 +22,8 @@ pub(crate) struct Scraping {
     pub stop: Stop,
 }
 
-/// By what the workers and the one who serves the logs show their numbers, and who reads them, if
-/// metrics are scraped.
+/// What shows the numbers of the workers and of the logs, and what reads them if metrics are
+/// scraped.
 #[derive(Drop)]
 pub(crate) struct Shows {
     /// One for each worker, or none.

@@ -1,4 +1,5 @@
 mod Capped
+mod Counted
 mod Demands
 mod Names
 mod Needs

@@ -1,5 +1,4 @@
-use Rattle.std.proofs.Common.{◌≡◌, ◌≢◌, ◌≤◌, ◌∙◌, ◌⊎◌, ◌++◌, inl, inr, ⊎_elim, refl, List, ℕ, Bool, Bor, length, map, vec_len, sym, ap, subst, true, false, arith}
-use Rattle.std.proofs.lemmas.List.{length-map}
+use Rattle.std.proofs.Common.{◌≡◌, ◌≢◌, ◌≤◌, ◌∙◌, ◌⊎◌, ◌++◌, inl, inr, ⊎_elim, refl, List, ℕ, Bool, Bor, length, map, sym, ap, subst, true, false, arith}
 use Rattle.std.proofs.lemmas.Result.{err_from_is_err_and}
 use Rattle.std.proofs.lemmas.Slice.Zip.{AllZip-long}
 use Rattle.std.specs.List.{AllZip, IsDistinct}
@@ -11,8 +10,10 @@ use Rattle.mc_server.specs.NetworkWords.{AreReservesWithin, Asks, AsksInVain, Is
 use Rattle.mc_server.specs.TenantWord.{IsOnly, Says, TenantAsked, asked_of}
 use Rattle.mc_server.specs.declared.network_words.NetworkWords.{NetworkWords}
 use Rattle.mc_server.specs.declared.tenant_word.Tenant.{Tenant}
-use Rattle.mc_server.specs.declared.network_words.TheConstants.{MAX_GENERATIONS, MAX_LOG_BYTES}
-use Rattle.mc_server.proofs.TenantLists.{all_only, all_say, each_has_a_place, limits_are, names_are, names_lawful, names_are_read, settings_are}
+use Rattle.mc_programs.specs.declared.options.TheConstants.{MAX_GENERATIONS}
+use Rattle.mc_server.specs.declared.network_words.TheConstants.{MAX_LOG_BYTES}
+use Rattle.mc_server.proofs.Complaints.{in_vain}
+use Rattle.mc_server.proofs.TenantLists.{all_only, all_say, each_has_a_place, limits_are, names_lawful, settings_are}
 use Rattle.mc_server.proofs.network_words.service_of.Goals as goal
 
 -- the tenants that were read are those that are asked for
@@ -22,13 +23,14 @@ read_are_asked : (words : NetworkWords) (lent : List (Bor (List ℕ))) (tenants 
 read_are_asked words lent tenants asked only e asks =
     let P : List (Bor (List ℕ)) → Type 0 = λ ws. AllZip Says (map (λ word. word.now) ws) asked.tenants in all_only _ _ asked.tenants only (subst P (sym e) asks.tenants)
 
--- as many tenants are asked for as words are given
-many_asked : (words : NetworkWords) (asked : NetworkAsked) → Asks (given_in words) asked → length asked.tenants ≡ vec_len words.tenants
-many_asked words asked asks =
-    omega (arith, AllZip-long Says (given_in words).tenants asked.tenants asks.tenants, length-map words.tenants.items (λ (word : Bor (List ℕ)). word.now), words.tenants.ok.0)
-
 apart : (b : Bool) → b ≡ true → b ≡ false → ⊥
 apart b passes fails = cc
+
+-- the words ask for nothing that can be served
+pub returns-in_err-check : goal.returns-in_err-check
+returns-in_err-check c =
+    let left = err_from_is_err_and c.from_residual.result c.from_residual.ensures.1 in
+    record { outcome = rw (left.1, left.2) (inr (refl, in_vain (given_in c.args.words.now) c.in_err-check.field-0.0 c.in_err-check.ensures)) }
 
 -- a tenant's word is of another form, or memory ran out
 pub returns-in_err-tenants : goal.returns-in_err-tenants
@@ -37,7 +39,7 @@ returns-in_err-tenants c =
     let P : List (Bor (List ℕ)) → Type 0 = λ ws. AllZip Says (map (λ word. word.now) ws) asked.tenants in
     none asked.tenants (subst P (sym c.deref.ensures.value) asks.tenants)
     in
-    let left = err_from_is_err_and c.from_residual.result c.from_residual.ensures.1 in
+    let left = err_from_is_err_and c.from_residual-in_err-tenants.result c.from_residual-in_err-tenants.ensures.1 in
     let fault : (c.in_err-tenants.field-0.0 ≡ Memory) ⊎ (c.in_err-tenants.field-0.0 ≡ BadSettings) × AsksInVain (given_in c.args.words.now) =
     ⊎_elim (λ starved. inl starved) (λ none. inr (none.0, vain none.1)) c.in_err-tenants.ensures.outcome in
     record { outcome = rw (left.1, left.2) fault }
@@ -68,30 +70,6 @@ returns-in_err-metrics c =
     let left = err_from_is_err_and c.from_residual-in_err-metrics.result c.from_residual-in_err-metrics.ensures.1 in
     record { outcome = rw (left.1, left.2) (inr (c.in_err-metrics.ensures.0, vain)) }
 
--- more workers, logs, bytes of a log or places are asked for than there may be
-pub returns-then-not-are_in_bounds : goal.returns-then-not-are_in_bounds
-returns-then-not-are_in_bounds c =
-    let vain : AsksInVain (given_in c.args.words.now) = λ asked asks servable.
-    let generations = subst (λ count. count ≤ MAX_GENERATIONS) asks.generations servable.generations in
-    let log_bytes = subst (IsBetween 1 MAX_LOG_BYTES) asks.log_bytes servable.log_bytes in
-    let reserves = subst (λ (reserve : ℕ). AreReservesWithin reserve (vec_len c.args.words.now.tenants)) asks.reserve
-    (subst (AreReservesWithin asked.reserve) (many_asked c.args.words.now asked asks) servable.reserve) in
-    apart _ (c.are_in_bounds.ensures.1 (asks.few, generations, log_bytes, reserves)) c.if-not-are_in_bounds.true
-    in
-    record { outcome = inr (refl, vain) }
-
--- a name is used twice
-pub returns-then-not-are_names_free : goal.returns-then-not-are_names_free
-returns-then-not-are_names_free c =
-    let vain : AsksInVain (given_in c.args.words.now) = λ asked asks servable.
-    let tenants = read_are_asked c.args.words.now _ c.in_ok-tenants.tenants.items asked c.in_ok-tenants.ensures.outcome c.deref.ensures.value asks in
-    let names = names_are asked c.in_ok-tenants.tenants.items tenants ∙ ap (map (λ tenant. tenant.name.now)) (sym c.deref-3.ensures.value) in
-    let admin = c.in_ok-admin.ensures.only asked.admin asks.admin in
-    let metrics = c.in_ok-metrics.ensures.only asked.metrics asks.metrics in
-    apart _ (c.are_names_free.ensures.1 (subst (IsDistinct bytes_eq) (λ i. reserved_names (admin i) (metrics i) ++ names i) servable.names)) c.if-not-are_names_free.true
-    in
-    record { outcome = inr (refl, vain) }
-
 -- the settings that were checked are those that are asked for
 checked_are_asked : (settings : Configuration) (workers places : ℕ) (quotas : List Limits) (tenants : List Tenant) → settings ≡ record { workers = workers; places = places; tenants = quotas }
     → quotas ≡ map (λ tenant. tenant.limits) tenants
@@ -101,28 +79,34 @@ checked_are_asked settings workers places quotas tenants e q =
 
 pub returns : goal.returns
 returns c =
+    let words = c.args.words.now in
+    let can = c.in_ok-check.ensures in
+    let asked = can.0 in
+    let asks = can.1 in
+    let servable = can.2 in
     let tenants = c.in_ok-tenants.tenants.items in
     let P : List (Bor (List ℕ)) → Type 0 = λ ws. AllZip Says (map (λ word. word.now) ws) (map asked_of tenants) in
     let quotas = c.in_ok-quotas.ensures ∙ ap (map (λ tenant. tenant.limits)) c.deref-2.ensures.value in
     let checked = c.in_ok-settings.ensures.settings in
     let settings = checked_are_asked _ _ _ _ tenants checked quotas in
-    let lent = ap (map (λ tenant. tenant.name.now)) c.deref-3.ensures.value ∙ sym (names_are_read tenants) in
-    let asked : NetworkAsked = record {
+    let read = read_are_asked words _ tenants asked c.in_ok-tenants.ensures.outcome c.deref.ensures.value asks in
+    let admin = c.in_ok-admin.ensures.only asked.admin asks.admin in
+    let metrics = c.in_ok-metrics.ensures.only asked.metrics asks.metrics in
+    let served : NetworkAsked = record {
       workers = c.in_ok-settings.settings.workers;
       places = c.in_ok-settings.settings.places;
-      generations = c.args.words.now.generations;
-      log_bytes = c.args.words.now.log_bytes;
-      reserve = c.args.words.now.reserve;
-      connections = c.args.words.now.connections;
+      generations = words.generations;
+      log_bytes = words.log_bytes;
+      reserve = words.reserve;
+      connections = words.connections;
       admin = c.in_ok-admin.admin;
       metrics = c.in_ok-metrics.metrics;
       tenants = map asked_of tenants;
     } in
-    let bounds = c.are_in_bounds.ensures.0 c.if-not-are_in_bounds.false in
-    let serve : c.in_ok-settings.settings.workers ≡ workers_for (given_in c.args.words.now) = ap (λ (s : Configuration). s.workers) checked ∙ c.workers_for.ensures in
-    let places : c.in_ok-settings.settings.places ≡ c.args.words.now.places = ap (λ (s : Configuration). s.places) checked in
-    let asks : Asks (given_in c.args.words.now) asked = record {
-      few = bounds.0;
+    let serve : served.workers ≡ workers_for (given_in words) = ap (λ (s : Configuration). s.workers) checked ∙ c.workers_for.ensures in
+    let places : served.places ≡ words.places = ap (λ (s : Configuration). s.places) checked in
+    let asks_served : Asks (given_in words) served = record {
+      few = asks.few;
       workers = serve;
       places = places;
       generations = refl;
@@ -133,12 +117,12 @@ returns c =
       metrics = c.in_ok-metrics.ensures.spells;
       tenants = subst P c.deref.ensures.value (all_say _ _ c.in_ok-tenants.ensures.outcome);
     } in
-    let servable : IsServable asked = record {
+    let servable_served : IsServable served = record {
       lawful = subst IsLawful (sym checked ∙ settings) (c.in_ok-settings.ensures.lawful.0 (λ i. true));
-      generations = bounds.1;
-      log_bytes = bounds.2;
-      reserve = subst (AreReservesWithin c.args.words.now.reserve) (sym (many_asked c.args.words.now asked asks)) bounds.3;
-      names = subst (IsDistinct bytes_eq) (ap (λ names. reserved_names c.in_ok-admin.admin c.in_ok-metrics.metrics ++ names) lent) (c.are_names_free.ensures.0 c.if-not-are_names_free.false);
+      generations = subst (λ count. count ≤ MAX_GENERATIONS) asks.generations servable.generations;
+      log_bytes = subst (IsBetween 1 MAX_LOG_BYTES) asks.log_bytes servable.log_bytes;
+      reserve = subst (λ reserve. AreReservesWithin reserve (length served.tenants)) asks.reserve (subst (λ many. AreReservesWithin asked.reserve (length many)) read servable.reserve);
+      names = subst (IsDistinct bytes_eq) (λ i. reserved_names (admin i) (metrics i) ++ map (λ tenant. tenant.name) (read i)) servable.names;
     } in
-    let each : c.args.words.now.generations ≢ 1 → c.in_ok-settings.settings.workers ≤ c.in_ok-settings.settings.places = λ many. omega (arith, each_has_a_place (given_in c.args.words.now) many, serve, places) in
-    record { outcome = (asks, record { settings = settings; servable = servable; each = each; names = names_lawful _ tenants c.in_ok-tenants.ensures.outcome }) }
+    let each : words.generations ≢ 1 → served.workers ≤ served.places = λ many. omega (arith, each_has_a_place (given_in words) many, serve, places) in
+    record { outcome = (asks_served, record { settings = settings; servable = servable_served; each = each; names = names_lawful _ tenants c.in_ok-tenants.ensures.outcome }) }

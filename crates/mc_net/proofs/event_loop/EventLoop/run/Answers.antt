@@ -22,8 +22,8 @@ returns-in_err-poll_events-clause-tenants g c = c.work_adds_up.ensures.known _ _
 pub make_round-requires : goal.make_round-requires
 make_round-requires g c = c.work_adds_up.ensures.known _ _ _ c.loop.invariant c.requires
 
-pub returns-in_err-is_woken-clause-tenants : goal.returns-in_err-is_woken-clause-tenants
-returns-in_err-is_woken-clause-tenants g c =
+pub returns-in_err-woken-clause-tenants : goal.returns-in_err-woken-clause-tenants
+returns-in_err-woken-clause-tenants g c =
     c.work_adds_up.ensures.known _ _ _ (c.work_adds_up.ensures.through _ _ _ _ c.loop.invariant c.make_round.ensures.works) c.requires
 
 pub returns-in_err-signal-clause-tenants : goal.returns-in_err-signal-clause-tenants
@@ -53,8 +53,8 @@ returns-in_err-tell_full-clause-stopped g c = if_failed _ (has_stopped c.args.un
 pub returns-in_err-poll_events-clause-stopped : goal.returns-in_err-poll_events-clause-stopped
 returns-in_err-poll_events-clause-stopped g c = if_failed _ (has_stopped c.args.until_done _ _ c.loop.invariant)
 
-pub returns-in_err-is_woken-clause-stopped : goal.returns-in_err-is_woken-clause-stopped
-returns-in_err-is_woken-clause-stopped g c =
+pub returns-in_err-woken-clause-stopped : goal.returns-in_err-woken-clause-stopped
+returns-in_err-woken-clause-stopped g c =
     if_failed _ (has_stopped c.args.until_done _ _ (c.work_adds_up.ensures.through _ _ _ _ c.loop.invariant c.make_round.ensures.works))
 
 pub returns-in_err-signal-clause-stopped : goal.returns-in_err-signal-clause-stopped
