@@ -40,7 +40,7 @@ def logic():
 
 
 def times(unit, count):
-    """So many times a unit, or for every third unit a number as far below the largest."""
+    """This many times a unit, or for every third unit a number as far below the largest."""
     return unit * count if unit % 3 else LARGEST - unit * count
 
 

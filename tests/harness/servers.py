@@ -57,7 +57,7 @@ def endless(log_bytes=None):
 
 
 def behind(count, tenants):
-    """These tenants behind so many idle ones."""
+    """These tenants behind this many idle ones."""
     return {f"idle{number}": IDLE for number in range(count)} | tenants
 
 
