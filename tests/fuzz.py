@@ -12,8 +12,8 @@ For this many seconds (60) it runs rounds, each with a server and tenants of its
 The tenants are in a random order with 40 idle ones. After each round every descriptor has to be given back, and the processor to rest. Before the
 rounds: a load that is repeated leaves the memory where it was; more connections than there may be descriptors are served one after another;
 connections that came and went close no other tenant's, and those that come and go without end keep no other waiting; a quiet connection keeps nothing
-of its large replies; where the system refuses threads the server ends; and gets whose replies are far above the process's memory come whole, under a
-limit (RLIMIT_AS), next to another tenant.
+of its large replies, and little of many small ones and of a long line; where the system refuses threads the server ends; and gets whose replies are
+far above the process's memory come whole, under a limit (RLIMIT_AS), next to another tenant.
 
 With `--generations` the logs have 64 places and follow one another without an end, below 1, 2 and 4 workers by turns, or always as many as
 `--workers` says; there are four tenants, one of each of the first four kinds, and no reply is that the log is full. With `--log-bytes` the logs
@@ -527,28 +527,55 @@ def check_rush(program, pool):
     yield from ((f"next to connects without end: {what}", wrong) for what, wrong in found)
 
 
-def check_quiet_connections(program):
-    """Connections that once had a reply of 8 MB, and sent a block of 1 MB, and then are quiet: what is kept for them."""
-    with Server(program, ["--workers", "2"], {"a": LARGE}) as server:
-        exchange(server.ports["a"], [b"set b 0 0 1048576\r\n" + b"b" * 1_048_576 + b"\r\n"])
-        clients = [connect(server.ports["a"]) for _ in range(20)]
-        for client in clients[:2]:
-            large_reply(client)
-        before = server.resident()
-        for client in clients[2:]:
-            large_reply(client)
-        kept = (server.resident() - before) / 18 / (1 << 20)
-        print(f"a quiet connection that once had a reply of 8 MB keeps {kept:.1f} MB", flush=True)
-        yield "quiet connections", f"each keeps {kept:.1f} MB of a reply that was sent" if kept > 2.5 else None
-        for client in clients:
-            client.close()
+def read(client, count):
+    """Reads as many bytes."""
+    while count and (piece := client.recv(count)):
+        count -= len(piece)
 
 
 def large_reply(client):
     client.sendall(b"get b b b b b b b b\r\n")
-    left = 8 * len(b"VALUE b 0 1048576\r\n\r\n") + (8 << 20) + len(b"END\r\n")
-    while left and (piece := client.recv(left)):
-        left -= len(piece)
+    read(client, 8 * len(b"VALUE b 0 1048576\r\n\r\n") + (8 << 20) + len(b"END\r\n"))
+
+
+def small_replies(client):
+    """8 MB of items of 1,000 bytes, more than the system holds: they are read once they wait in a queue."""
+    client.sendall((b"get" + b" s" * 100 + b"\r\n") * 80)
+    time.sleep(0.05)
+    read(client, 80 * (100 * len(b"VALUE s 0 1000\r\n" + b"s" * 1_000 + b"\r\n") + len(b"END\r\n")))
+
+
+def long_line(client):
+    """A line of nearly as many bytes as it may have, and a short reply."""
+    client.sendall(b"version\r\n".rjust(65_000))
+    read(client, len(protocol.VERSION))
+
+
+# What connections did before they were quiet, and how many megabytes each keeps at most, by which of the process's figures: by VmData it counts too
+# what memory is kept and wasn't written to.
+QUIET = (
+    ("had a reply of 8 MB", large_reply, 2.5, "VmRSS"),
+    ("had many small replies", small_replies, 0.3, "VmData"),
+    ("sent a long line", long_line, 0.05, "VmData"),
+)
+
+
+def check_quiet_connections(program):
+    """What is kept for connections that did one of these once, and then are quiet."""
+    for what, does, most, figure in QUIET:
+        with Server(program, ["--workers", "2"], {"a": LARGE}) as server:
+            exchange(server.ports["a"], [b"set b 0 0 1048576\r\n%s\r\nset s 0 0 1000\r\n%s\r\n" % (b"b" * 1_048_576, b"s" * 1_000)])
+            clients = [connect(server.ports["a"]) for _ in range(24)]
+            for client in clients[:6]:
+                does(client)
+            before = server.figure(figure)
+            for client in clients[6:]:
+                does(client)
+            kept = (server.figure(figure) - before) / 18 / (1 << 20)
+            print(f"a quiet connection that once {what} keeps {kept:.2f} MB", flush=True)
+            yield f"quiet connections that once {what}", f"each keeps {kept:.2f} MB" if kept > most else None
+            for client in clients:
+                client.close()
 
 
 def check_refused_threads(program):

@@ -2,10 +2,11 @@
 """Tests the metrics of wfmc, as built, over sockets on loopback: metrics.py [BINARY].
 
 What a scrape shows is held against what the clients know: items, bytes, quotas, connections, commands by kind, hits, misses and refusals of each of
-three tenants behind idle ones, the connections of each of 16 workers, which log is served, how many bytes it keeps, and whether a worker lags. Then
-scrapes as fast as they come while clients are answered as ever, more connections than there are places for, requests that are slow, huge or none, and
-one that does nothing, which is closed after ten seconds. And the words: an address that is taken, a tenant named metrics. A live scrape and the rules
-of etc/ are held against promtool (Debian's package prometheus; PROMTOOL names another) where it is installed, and it is said where it isn't.
+three tenants behind idle ones, the connections of each of 16 workers, which log is served, how many bytes it keeps, by each kind of command, and
+whether a worker lags; and while nobody scrapes no processor is used. Then scrapes as fast as they come while clients are answered as ever, more
+connections than there are places for, requests that are slow, huge or none, and one that does nothing, which is closed after ten seconds. And the
+words: an address that is taken, a tenant named metrics. A live scrape and the rules of etc/ are held against promtool (Debian's package prometheus;
+PROMTOOL names another) where it is installed, and it is said where it isn't.
 Prints a line for each failure; the last line is 'N passed, M failed'.
 """
 
@@ -223,6 +224,59 @@ def check_by_promtool(text):
     for what, words, given in (("metrics", ["check", "metrics"], text), ("rules", ["check", "rules", RULES], "")):
         told = subprocess.run([PROMTOOL, *words], input=given, capture_output=True, text=True, timeout=20)
         check(f"promtool check {what}", told.returncode == 0, told.stdout + told.stderr)
+
+
+# Commands, what each is answered, and how many bytes of the log it keeps, whatever comes of it: 64 and those of its key and its data, or of each of
+# its keys and a byte more.
+KEEPING = [
+    ("set key 0 0 2\r\n12\r\n", "STORED", 64 + 3 + 2),
+    ("add other 0 0 7\r\n1234567\r\n", "STORED", 64 + 5 + 7),
+    ("add other 0 0 9\r\n123456789\r\n", "NOT_STORED", 64 + 5 + 9),
+    ("replace key 0 0 5\r\n12345\r\n", "STORED", 64 + 3 + 5),
+    ("append key 0 0 6\r\n678901\r\n", "STORED", 64 + 3 + 6),
+    ("prepend key 0 0 8\r\n12345678\r\n", "STORED", 64 + 3 + 8),
+    ("cas key 0 0 10 999999\r\n1234567890\r\n", "EXISTS", 64 + 3 + 10),
+    ("cas missing 0 0 11 1\r\n12345678901\r\n", "NOT_FOUND", 64 + 7 + 11),
+    ("incr other 1\r\n", "1234568", 64 + 5),
+    ("incr missing 1\r\n", "NOT_FOUND", 64 + 7),
+    ("decr other 2\r\n", "1234566", 64 + 5),
+    ("get missing\r\n", "END", 64 + 7 + 1),
+    ("gets missing none\r\n", "END", 64 + 7 + 1 + 4 + 1),
+    ("delete other\r\n", "DELETED", 64 + 5),
+    ("flush_all\r\n", "OK", 0),
+]
+
+
+def check_kept_bytes():
+    """What each kind of command keeps of a log's bytes."""
+    with Server(PROGRAM, ("--workers", "1", *METRICS)) as server, server.client() as client:
+        kept = 0
+        for number, (request, reply, count) in enumerate(KEEPING, 1):
+            what = request.partition("\r\n")[0]
+            told = client.line(request.encode())
+            check(f"the reply to {what}", told == reply, told)
+            shown = awaits(server, f"what {what} keeps", {"wfmc_log_used_places": number, "wfmc_log_bytes": kept + count})
+            kept = shown["wfmc_log_bytes"]
+
+
+def used_in_a_second(server):
+    """The processor time that it uses in the next second."""
+    used = server.processor_seconds()
+    time.sleep(1)
+    return server.processor_seconds() - used
+
+
+def check_rest():
+    """Where nobody scrapes no processor is used, and none next to a connection that had more scrapes than one of its turns takes and stays."""
+    with Server(PROGRAM, METRICS) as server:
+        used = used_in_a_second(server)
+        check("nobody scrapes, and it rests", used < 0.1, f"{used:.2f} seconds of a processor in one")
+        scraper = Scraper(server)
+        scraper.send(b"GET /metrics HTTP/1.1\r\nHost: wfmc\r\n\r\n" * 20)
+        check("scrapes that are asked for at once", all(scraper.reply()[0] == "HTTP/1.1 200 OK" for _ in range(20)))
+        used = used_in_a_second(server)
+        check("a quiet connection, and it rests", used < 0.1, f"{used:.2f} seconds of a processor in one")
+        check("one more scrape over it", scraper.get()[0] == "HTTP/1.1 200 OK")
 
 
 # What a client sends and is answered, and what is counted of it: the kind of its command, how many keys that retrieves, and its refusal. The
@@ -488,6 +542,8 @@ def main():
     check_words()
     check_numbers()
     check_lag()
+    check_kept_bytes()
+    check_rest()
     check_tallies()
     check_starved()
     check_full_speed()

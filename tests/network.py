@@ -7,11 +7,12 @@ the same. Then clients that others must not notice: one that closes in the middl
 connections than a worker takes, two tenants with the same key, 500 commands of 8 clients at once, 64 tenants, refused lines of the 17th with
 noreply and without it, 300 clients of the 17th that each send 100 KB at once, all places of the longest log, and logs that follow one another
 once their places are taken, or their bytes, while clients are cut off around each turn over.
-An administrator, whose quotas are in force at every worker, and whom no tenant locks out. Tenants for whom places are kept, and clients who
-are served by another worker where theirs has no place (network_places.py). And clients that nobody may forget: the process is stopped until
-many have connected, asked or left, and then goes on, while a worker is busy, or descriptors are scarce. Where no client is
-left, everything is given back, and no thread wakes. Clients that send more behind their last request, and read late, get all their replies;
-and where a wait for events fails (tests/fail_wait.c, which needs gcc), everything ends. Connections have the system's keepalive.
+An administrator, whose quotas are in force at every worker, and whom no tenant locks out. Tenants for whom places are kept, clients who have one
+next to a crowd of another tenant's, and clients who are served by another worker where theirs has no place (network_places.py). And clients that
+nobody may forget: the process is stopped until many have connected, asked or left, and then goes on, while a worker is busy, or descriptors are
+scarce. Where no client is left, everything is given back, and no thread wakes. Clients that send more behind their last request, and read late, get
+all their replies, at the end of a run too; where more leave than close, those who left first are cut off; and where a wait for events fails
+(tests/fail_wait.c, which needs gcc), everything ends. Connections have the system's keepalive.
 Prints a line for each failure; the last line is 'N passed, M failed'.
 """
 
@@ -33,7 +34,8 @@ import time
 import network_places
 from harness import preload, repository, servers
 from harness.answers import PATIENCE, answer, are_answered, ask, is_answered, is_answered_again, is_closed, is_ended
-from harness.client import exchange, late_reply, reset
+from harness.client import exchange, late_reply, peer_sockets, reset
+from harness.processes import sockets
 from harness.results import Results
 from harness.servers import ADMIN, METRICS, Server, behind, free_port
 from network_places import LARGE, waiting_room
@@ -633,6 +635,61 @@ def check_kept_streams():
         check("the end next to a client that doesn't close", server.wait() == (0, b"done 0\n", b"") and time.monotonic() - begun < PATIENCE)
 
 
+def leave(server):
+    """A client that has said `quit` and was told the end, and doesn't close."""
+    client = ask(server, "a", b"version\r\nquit\r\n")
+    check("a client that doesn't close", is_answered(client) and is_ended(client))
+    return client
+
+
+def check_kept(what, server, clients, first):
+    """The server comes to have the streams of these clients from the one of this number on, and none of those before it."""
+    until, wrong = time.monotonic() + PATIENCE / 5, [first]
+    while wrong and time.monotonic() < until:
+        held = sockets(server.pid)
+        wrong = [number for number, peer in enumerate(peer_sockets(clients)) if (peer in held) != (number >= first)]
+        time.sleep(0.01)
+    check(what, not wrong, f"not so of {wrong}")
+
+
+def check_oldest_streams():
+    """Clients leave one after another, and don't close: a worker that has as many streams as it keeps closes that of the one who left first. Where one
+    of the others closes, the next who leaves takes its room."""
+    with Server(PROGRAM, ["--workers", "1"], {"a": LARGE}) as server:
+        clients = [leave(server) for _ in range(80)]
+        check_kept("the last 64 streams are kept", server, clients, 16)
+        descriptors = server.descriptors()
+        clients.pop(40).close()
+        check("all of them but one whose client closes", rests(server, descriptors - 1))
+        for first in (16, 17, 18):
+            clients.append(leave(server))
+            check_kept(f"those from the one of number {first} on are kept", server, clients, first)
+        for client in clients:
+            client.close()
+
+
+def check_late_at_the_end():
+    """The last client reads a large item late, and sends more meanwhile. It has the time for that, of which another takes none that has left too and
+    goes on sending."""
+    block = b"k" * 100_000
+    request = b"set k 0 0 %d\r\n%s\r\nget k\r\nquit\r\n" % (len(block), block)
+    wanted = b"STORED\r\nVALUE k 0 %d\r\n%s\r\nEND\r\n" % (len(block), block), True
+    with Server(PROGRAM, ["--connections", "1"], {"a": LARGE}) as server:
+        reply = late_reply(server.ports["a"], request, b"version\r\n", PATIENCE, pause=0.1)
+        check("the last client's reply", reply == wanted, f"{len(reply[0])} bytes, {reply[1]}")
+        check("the end behind it", server.wait() == (0, b"done 2\n", b""))
+    options = ["--workers", "1", "--connections", "2"]
+    with Server(PROGRAM, options, {"a": LARGE}) as server, concurrent.futures.ThreadPoolExecutor(1) as pool:
+        late = pool.submit(late_reply, server.ports["a"], request, b"version\r\n", PATIENCE, pause=0.5)
+        with leave(server) as other, contextlib.suppress(OSError):
+            while not late.done():
+                other.sendall(b"a")
+                time.sleep(0.0002)
+        reply = late.result()
+        check("the last reply next to a client that sends on", reply == wanted, f"{len(reply[0])} bytes, {reply[1]}")
+        check("the end behind both", server.wait() == (0, b"done 2\n", b""))
+
+
 def ending_where_a_wait_fails(environment, poll, wait):
     """How a server of two workers ends where a wait of this number fails at the poll of this number: the workers', and then the acceptor's. Where
     it fails before all loops have begun, no port is printed."""
@@ -683,6 +740,7 @@ def main():
     check_admin_does_not_count()
     check_admins_address()
     network_places.check_reserve(PROGRAM, check)
+    network_places.check_next_to_crowd(PROGRAM, check)
     network_places.check_passing_on(PROGRAM, check)
     check_crowd()
     check_at_once()
@@ -706,6 +764,8 @@ def main():
     check_workers_and_places()
     check_late_readers()
     check_kept_streams()
+    check_oldest_streams()
+    check_late_at_the_end()
     check_failing_waits()
     results.finish()
 

@@ -9,10 +9,13 @@ import resource
 import time
 
 from harness.answers import PATIENCE, answer, are_answered, ask, is_answered, is_answered_again, is_closed
+from harness.client import reset
 from harness.servers import ADMIN, Server, behind, ending_of
 from oracle.protocol import NO_ROOM
 
 LARGE = (1000, 100_000_000)
+# Within how many seconds a new client is answered whom nobody else's may hold up.
+SOON = 1.0
 
 
 def waiting_room():
@@ -111,6 +114,54 @@ def check_reserve(program, check):
     check("all is kept", ending_of(program, "--check", "--reserve", "512", *two) == (0, b"wfmc: the settings can be served\n", b""))
     most = ending_of(program, "--check", "--reserve", str(2**64 - 1), *two)
     check("far more", most == (2, b"", why.replace(b"513", b"%d" % (2**64 - 1))), most)
+
+
+def send_what_fits(client, requests):
+    """Sends of these requests as much as the system holds, and doesn't wait."""
+    client.setblocking(False)
+    with contextlib.suppress(BlockingIOError):
+        client.sendall(requests)
+    client.settimeout(PATIENCE)
+
+
+def is_answered_soon(server, name):
+    """Whether a client that comes now has its first reply within a second."""
+    begun = time.monotonic()
+    with server.connect(name, SOON) as client:
+        client.sendall(b"version\r\n")
+        return is_answered(client) and time.monotonic() - begun < SOON
+
+
+def has_accepted(server, count):
+    """Whether the server comes to have as many descriptors."""
+    until = time.monotonic() + PATIENCE
+    while server.descriptors() < count and time.monotonic() < until:
+        time.sleep(0.001)
+    return server.descriptors() >= count
+
+
+def check_next_to_crowd(program, check):
+    """All places are kept for two tenants. One has 200 clients who keep the worker busy, and 400 more come, of whom 88 have no place and none has a turn
+    soon. New clients of the other, and administrators, have a place and are answered soon."""
+    if min(resource.getrlimit(resource.RLIMIT_NOFILE)[0], waiting_room()) < 700:
+        print("new clients next to a crowd aren't tried: too few connections are allowed here")
+        return
+    with Server(program, [*ADMIN, "--workers", "1", "--reserve", "512"], {"a": LARGE, "b": LARGE}) as server:
+        busy = held_places(server, "a", 200)
+        before = server.descriptors()
+        with server.stopped():
+            for client in busy:
+                send_what_fits(client, b"\n" * 100_000)
+            crowd = [ask(server, "a") for _ in range(400)]
+        check("a crowd is accepted", has_accepted(server, before + 400))
+        for name in ("b", "admin", "b", "admin", "b"):
+            check(f"a new client of {name} next to a crowd", is_answered_soon(server, name))
+        for client in busy:
+            reset(client)
+        answered = sum(is_answered(client) for client in crowd)
+        check("those of a crowd who have places", answered >= 312, answered)
+        for client in crowd:
+            client.close()
 
 
 def check_passing_on(program, check):

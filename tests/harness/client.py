@@ -25,15 +25,20 @@ def reset(connection):
     connection.close()
 
 
-def peer_socket(connection):
-    """The kernel's number of the socket at the other end of a connection over loopback, if that was accepted."""
-    ends = [f":{end[1]:04X}" for end in (connection.getpeername(), connection.getsockname())]
+def peer_sockets(connections):
+    """The kernel's numbers of the sockets at the other ends of connections over loopback, of those that were accepted."""
+    numbers = {}
     with open("/proc/net/tcp", encoding="ascii") as table:
         for line in table:
             _, here, there, *fields = line.split()
-            if [here[-5:], there[-5:]] == ends:
-                return fields[6]
-    return None
+            numbers[here[-5:], there[-5:]] = fields[6]
+    ends = ((connection.getpeername(), connection.getsockname()) for connection in connections)
+    return [numbers.get((f":{there[1]:04X}", f":{here[1]:04X}")) for there, here in ends]
+
+
+def peer_socket(connection):
+    """The kernel's number of the socket at the other end of a connection over loopback, if that was accepted."""
+    return peer_sockets([connection])[0]
 
 
 def exchange(port, pieces, seconds=SECONDS):
@@ -44,13 +49,14 @@ def exchange(port, pieces, seconds=SECONDS):
     return both_ways.finish(), both_ways.ending
 
 
-def late_reply(port, request, behind, seconds=SECONDS):
-    """What a client receives, and whether its end follows, that sends more once the reply has begun, and reads slowly."""
+def late_reply(port, request, behind, seconds=SECONDS, pause=0.0):
+    """What a client receives, and whether its end follows, that sends more this long after the reply has begun, and reads slowly."""
     received = bytearray()
     with connect(port, seconds, receive_buffer=4096) as client:
         try:
             client.sendall(request)
             received += client.recv(1)
+            time.sleep(pause)
             client.sendall(behind)
             time.sleep(0.05)
             while piece := client.recv(8192):

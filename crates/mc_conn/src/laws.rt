@@ -17,6 +17,7 @@ ghost use Rattle.mc_model.specs.Log.{own};
 ghost use Rattle.mc_conn.specs.declared.conn.Role.{Role};
 ghost use Rattle.mc_conn.specs.declared.conn.Role.TheVariants.{Tenant};
 ghost use Rattle.mc_conn.specs.declared.conn.TheConstants.{PULL_BYTES, QUEUE_BYTES};
+ghost use Rattle.mc_conn.specs.declared.queue.TheConstants.{KEPT_BYTES};
 ghost use Rattle.mc_conn.specs.Alone.{IsAlone, IsAloneOver, commands_of, first_mark, owed, owed_after};
 ghost use Rattle.mc_conn.specs.Ending.{LogsInTime, Pulls, PullsFew, PullsLate, Stops};
 ghost use Rattle.mc_conn.specs.Held.{Holding, IsRead};
@@ -25,10 +26,11 @@ ghost use Rattle.mc_conn.specs.Tallying.{HasCounted, HasCountedTo};
 ghost use Rattle.mc_conn.specs.Turn.{Scene, Takes};
 
 /// The bounds of a connection: how many bytes may be queued while requests are taken and bytes are
-/// pulled, and how many bytes a pull asks for.
+/// pulled, how many bytes a pull asks for, and how many bytes of memory a queue keeps.
 pub fn bounds_of_a_connection()
     ensures queue { QUEUE_BYTES ≡ 1048576 }
     ensures pull { PULL_BYTES ≡ 16384 }
+    ensures kept { KEPT_BYTES ≡ 65536 }
 {}
 
 /// In a log of one worker a command stands at the place of its number, and is turned away only

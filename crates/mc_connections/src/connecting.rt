@@ -1,5 +1,6 @@
 //! How a worker admits connections and serves them.
-ghost use Rattle.std.specs.Prelude.{◌≡◌, ◌<◌, true, false, length, IfOk, MatchResult, Ok};
+ghost use Rattle.std.specs.Prelude.{◌≡◌, ◌⊎◌, ◌<◌, ◌≤◌, ℕ, true, false, length, IfOk, MatchResult, Ok, Some};
+ghost use Rattle.fair_places.specs.Places.{held_by};
 ghost use Rattle.mc_conn.specs.Ending.{PullsOnce, Stops};
 ghost use Rattle.mc_conn.specs.Owed.{FitsLog};
 ghost use Rattle.mc_conn.specs.Tallying.{HasCounted, HasCountedTo};
@@ -7,7 +8,9 @@ ghost use Rattle.mc_conn.specs.Turn.{scene};
 ghost use Rattle.mc_connections.specs.Serving.{HasAtMost, HasComeTo, IsServedLater, IsTallied, SpendsAt, Stands, TakesOrStops, TurnsOnce, answered_between, moved_between, scene_of, tenant_at};
 ghost use Rattle.mc_connections.specs.Tallying.{TalliesAt};
 ghost use Rattle.mc_connections.specs.Working.{ServesAt, standing};
+ghost use Rattle.mc_connections.specs.declared.pace.TheConstants.{SHARED};
 ghost use Rattle.mc_stream.specs.Stream.{both};
+ghost use Rattle.slab.specs.Slab.{slab_len};
 ghost use Rattle.uc_worker.specs.Worker.{tenants_of};
 
 use crate::arrival::{Admission, Arrival};
@@ -201,11 +204,17 @@ impl Connections {
 
     /// Returns how much serving a connection of this tenant, or of an administrator if there is
     /// none, may take: less if not all that there are are that tenant's.
-    fn share_of(&self, tenant: Option<usize>) -> Share {
-        match tenant {
-            Some(tenant) if self.places.held_by(tenant) >= self.by_key.len() => ALONE,
-            _ => SHARED,
+    fn share_of(&self, tenant: Option<usize>) -> Share
+        ensures { (result ≡ SHARED) ⊎ (holder : ℕ) × (tenant ≡ Some holder)
+            × (slab_len self.now.by_key ≤ held_by self.now.places.tenants holder) }
+    {
+        let Some(tenant) = tenant else {
+            return SHARED;
+        };
+        if self.places.held_by(tenant) < self.by_key.len() {
+            return SHARED;
         }
+        ALONE
     }
 
     /// Admits an arrival as a connection. Its key is also the token of its events.

@@ -1,8 +1,8 @@
 //! The connections of an event loop.
-ghost use Rattle.std.specs.Prelude.{◌≡◌, ◌==◌, ◌≤◌, ◌<◌, ◌*◌, ℕ, [], IfOk, Some, length, true};
+ghost use Rattle.std.specs.Prelude.{◌≡◌, ◌==◌, ◌≤◌, ◌<◌, ◌*◌, ℕ, [], IfOk, Some, false, length, true};
 ghost use Rattle.mc_connections.specs.declared.connections.TheConstants.{MOST_OF_ALL};
 ghost use Rattle.mc_connections.specs.declared.places.TheConstants.{MOST_CONNECTIONS};
-ghost use Rattle.mc_connections.specs.Counting.{AreCounted, is_admin, tenants_among};
+ghost use Rattle.mc_connections.specs.Counting.{AreCounted, HasPlace, is_admin, tenants_among};
 ghost use Rattle.std.proofs.Props.{props};
 ghost use Rattle.mc_conn.specs.Owed.{IsAmong, IsAmong-prop};
 ghost use Rattle.slab.specs.Slab.{get, slab_len};
@@ -97,10 +97,12 @@ impl Connections {
         self.places.held_by(tenant)
     }
 
-    /// Returns whether every place of tenants is held or kept, by connections too that haven't been
-    /// served yet: some of these may have ended, and give back their places once they are.
-    pub fn is_crowded(&self) -> bool {
-        !self.places.has_unclaimed()
+    /// Returns whether an arrival of this role is to wait: there is no place for it, and some
+    /// connections haven't been served yet, which may have ended and give back their places then.
+    pub fn holds_back(&self, role: &Role) -> bool
+        ensures { HasPlace role.now self.now.places → result ≡ false }
+    {
+        !self.places.has_place(role)
             && self
                 .by_key
                 .iter()

@@ -140,8 +140,8 @@ pub fn others_take_one_turn_each()
     fair_queue::laws::a_flow_waits_for_one_quantum_of_each_other();
 }
 
-/// A worker's queue is fair when it is new, as `ReadyQueue::new` returns it, and each round, and
-/// each serve in it, leaves it so.
+/// No flow of a worker's queue has more than a quantum left when it is new, as `ReadyQueue::new`
+/// returns it, and each round, and each serve in it, keeps that: so the bound above holds of it.
 pub fn rounds_stay_fair()
     ensures round { (until : Bool) (events : List Event) (before after : Queued) →
         MakesRound until events before after → IsFair before.waiting.queue →
@@ -194,8 +194,9 @@ pub fn work_adds_up()
         KeepsPlaces reserve a.connections → KeepsPlaces reserve b.connections }
 {}
 
-/// Connections outlive logs: what a connection was sent from its first byte to its last is what it
-/// is owed by the workers that have served it, log after log.
+/// Connections outlive logs: what a connection that has ended was sent, from its first byte to its
+/// last, is what it is owed by the workers that have served it, log after log. If a fault ended it,
+/// it is a prefix of that and of the words that report the fault.
 pub fn connections_are_answered_over_logs()
     ensures { (who : InTurn) (connections : Connections) → HaveServedInTurn who connections →
         All (WasAnswered who.served) connections.ended.connections }
@@ -248,8 +249,9 @@ pub fn what_a_client_has_seen_comes_first()
         SeesThenAsks until past saw asked answered → Continues saw.worker answered.worker }
 {}
 
-/// Once no connection is left, each command that a worker has announced is one request of a
-/// connection that has ended, and none was announced twice: neither on one log nor on two.
+/// Once no connection is left, each command that a worker has announced since it began to serve is
+/// one request of a connection that has ended, and none was announced twice: neither on one log nor
+/// on two.
 pub fn commands_are_asked_for_over_logs()
     ensures { (who : InTurn) (connections : Connections) → HaveServedInTurn who connections →
         IsEmpty connections → HaveBeenAsked who.begun who.served connections.ended.connections }

@@ -96,11 +96,6 @@ impl Places {
         }
     }
 
-    /// Returns whether a place of tenants is free that is kept for none of them.
-    pub(crate) fn has_unclaimed(&self) -> bool {
-        self.tenants.has_unclaimed()
-    }
-
     /// Lets every connection give back its place.
     pub(crate) fn clear(&mut self)
         ensures { self.new ≡ record self.old {

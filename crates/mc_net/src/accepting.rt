@@ -1,5 +1,5 @@
 //! The acceptor's loop.
-ghost use Rattle.std.specs.Prelude.{◌≡◌, IfOk, MatchResult};
+ghost use Rattle.std.specs.Prelude.{◌≡◌, IfOk, MatchResult, OnOk};
 ghost use Rattle.mc_net.specs.Beginning.{HaltsServing};
 
 use crate::beginning::Begin;
@@ -166,7 +166,8 @@ impl Acceptor {
     /// report. Returns `Memory` if a loop doesn't begin in time, for example because the system
     /// refuses its thread, and `Poll` if a poll fails.
     fn await_workers<R: Wait>(&mut self, rt: &R, mailboxes: &Mailboxes) -> Result<(), Halt>
-        ensures { self.new.listeners ≡ self.old.listeners }
+        ensures listeners { self.new.listeners ≡ self.old.listeners }
+        ensures more { OnOk result (self.new.has_more ≡ self.old.is_registered) }
     {
         let pause = Some(Duration::from_millis(1));
         let mut idle_polls = 0u32;

@@ -1,11 +1,13 @@
 //! A worker's event loop.
 ghost use Rattle.std.specs.List.{list_any};
-ghost use Rattle.std.specs.Prelude.{◌≡◌, ◌↔◌, ◌⊎◌, ◌*◌, ◌≤◌, Bool, false, length, IfErr, IfOk, IsTrue, None, Some};
+ghost use Rattle.std.specs.Prelude.{◌≡◌, ◌↔◌, ◌⊎◌, ◌*◌, ◌≤◌, Bool, false, length, IfErr, IfOk, IfSome, IsTrue, None, Some};
+ghost use Rattle.std.specs.Duration.{as_nanos};
 ghost use Rattle.mc_connections.specs.Round.{NoConnectionWaits, is_wake};
 ghost use Rattle.mc_connections.specs.Serving.{HasComeTo};
 ghost use Rattle.mc_connections.specs.Working.{IsNewFor, KeepsPlaces, Works};
 ghost use Rattle.mc_connections.specs.declared.arrival.Admission.{Admission};
 ghost use Rattle.mc_connections.specs.declared.places.TheConstants.{MOST_CONNECTIONS};
+ghost use Rattle.mc_net.specs.declared.event_loop.TheConstants.{RETRY_MILLIS};
 ghost use Rattle.mc_net.specs.Running.{ClosesAt, HasStopped, HasWorked, standing_at};
 ghost use Rattle.mio.specs.Events.{items};
 ghost use Rattle.uc_worker.specs.Going.{CatchesUp};
@@ -37,8 +39,12 @@ const ARRIVALS: u32 = 8;
 /// others are woken to catch up. A worker catches up with at most as many between two polls.
 const STRIDE: usize = 4_096;
 
-/// How many polls of `LINGER_MILLIS` a loop makes at its end for streams that close: two seconds.
+/// How many polls of `LINGER_MILLIS` that report nothing a loop makes at its end for streams that
+/// close: two seconds.
 const LINGER_POLLS: u32 = 200;
+
+/// How many polls it makes for them in total at most, so that nobody who goes on sending keeps it.
+const LINGER_POLLS_IN_TOTAL: u32 = 100_000;
 
 /// How long each of these polls waits at most, in milliseconds.
 const LINGER_MILLIS: u64 = 10;
@@ -155,9 +161,9 @@ impl EventLoop {
         }
     }
 
-    /// Admits the arrivals in the mailbox of this number, `ARRIVALS` at most. None is while all
-    /// places are taken by connections of which some haven't been served yet, since their clients
-    /// may have left: so nobody is refused a place for one that is gone already.
+    /// Admits the arrivals in the mailbox of this number, `ARRIVALS` at most. One for which there is
+    /// no place goes back behind the others while some connections haven't been served yet, since
+    /// their clients may have left: so nobody is refused a place for one that has never been served.
     ///
     /// Returns the signal that follows them, or `None` if more may be left. Returns `Poll` if
     /// another worker can't be woken.
@@ -175,28 +181,35 @@ impl EventLoop {
             return Err(Halt::Elsewhere);
         };
         for _ in 0..ARRIVALS {
-            if self.ready.connections.is_crowded() {
-                return Ok(None);
-            }
-            match mailbox.next(rt) {
-                Ok(offer) => self.admit(rt, mailboxes, number, offer)?,
+            let offer = match mailbox.next(rt) {
+                Ok(offer) => offer,
                 Err(signal) => return Ok(Some(signal)),
+            };
+            if self.ready.connections.holds_back(offer.arrival.role()) {
+                mailbox.put_back(rt, offer);
+                continue;
             }
+            self.admit(rt, mailboxes, number, offer)?;
         }
         Ok(None)
     }
 
-    /// Waits until the streams that close have ended, for about two seconds at most.
+    /// Waits until the streams that close have ended, for about two seconds. Polls that report
+    /// something don't count, so that a client that sends doesn't shorten the wait of others.
     fn linger(&mut self, buffer: &mut [u8; PULL_BYTES])
         ensures { self.new.ready.connections ≡ self.old.ready.connections }
     {
         let timeout = Some(Duration::from_millis(LINGER_MILLIS));
-        for _ in 0..LINGER_POLLS {
-            if self.ready.closing.is_empty() {
+        let mut idle_polls = 0u32;
+        for _ in 0..LINGER_POLLS_IN_TOTAL {
+            if self.ready.closing.is_empty() || idle_polls >= LINGER_POLLS {
                 return;
             }
             if poll_events(&mut self.poll, &mut self.events, timeout).is_err() {
                 return;
+            }
+            if self.events.is_empty() {
+                idle_polls = idle_polls.saturating_add(1);
             }
             self.ready.closing.serve_events(&self.events, buffer);
         }
@@ -260,9 +273,13 @@ impl EventLoop {
     /// event comes.
     fn timeout(&self, may_have_arrivals: bool) -> Option<Duration>
         // It waits without an end just where nothing is left that no event would report.
-        ensures { (result ≡ None) ↔ (may_have_arrivals ≡ false)
+        ensures none { (result ≡ None) ↔ (may_have_arrivals ≡ false)
             × NoConnectionWaits self.now.ready × (self.now.is_behind ≡ false)
             × (self.now.is_starved ≡ false) }
+        // And it waits for a while only where nothing is left but a retry.
+        ensures some { IfSome result (λ time. (as_nanos time ≡ 0)
+            ⊎ (as_nanos time ≡ RETRY_MILLIS * 1000000) × (may_have_arrivals ≡ false)
+            × NoConnectionWaits self.now.ready × (self.now.is_behind ≡ false)) }
     {
         if may_have_arrivals || !self.ready.may_wait() || self.is_behind {
             return Some(Duration::ZERO);

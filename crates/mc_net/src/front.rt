@@ -218,7 +218,8 @@ impl Front {
         ensures back { IfOk result (λ pair. AllZip Continues workers.entry.items pair.0.items) }
         ensures logs { IfOk result
             (λ pair. All (λ worker. worker.log.now ≡ log.entry.now) pair.0.items) }
-        // One run of the log, from its opening, has all their calls in order, and no others.
+        // One run of the log, from its opening, has all their calls, each worker's in order, and no
+        // other events of theirs.
         ensures run { IfOk result (λ pair. AreOnOneRun pair.0.items) }
         // It has as many event loops as before, or none after a fault, and as many tenants.
         ensures loops { IfOk result

@@ -117,6 +117,13 @@ impl Mailbox {
         Ok(None)
     }
 
+    /// Puts an offer back, behind the others. If the queue can't grow the stream is closed.
+    pub(crate) fn put_back<R: Wait>(&self, rt: &R, offer: Offer) {
+        let mut guard = self.inbox.lock(rt);
+        let inbox = &mut *guard;
+        let _ = inbox.offers.push_back(offer);
+    }
+
     /// Notes that the loop ends, unless an offer has come by now. Returns whether it ends.
     pub(crate) fn leave<R: Wait>(&self, rt: &R) -> bool {
         let mut guard = self.inbox.lock(rt);

@@ -71,14 +71,16 @@ pub fn serve<'a, R: Threads + Wait + Net + Sync, G: Gate + Send + Drop, B: Begin
         (λ back. AllZip Continues workers.entry.items (map returned_worker back.items)) }
     // It admitted arrivals and served connections until none was left.
     ensures served { IfOk result (λ back. AllZip HasServed workers.entry.items back.items) }
-    // Each connection that it admitted has ended, and was sent what it is owed, or a fault's words.
+    // Each connection that it admitted has ended. It was sent what it is owed or, after a fault, a
+    // prefix of that and of the fault's words.
     ensures answered { IfOk result (λ back. All HasAnswered back.items) }
     // Each command that it announced is one request of one of these, in order, and none twice.
     ensures asked { IfOk result (λ back. AllZip HasBeenAsked workers.entry.items back.items) }
     // All workers are still of the log, so that they can meet.
     ensures logs { IfOk result
         (λ back. All (λ worker. worker.log.now ≡ log.entry.now) (map returned_worker back.items)) }
-    // One run of the log, from its opening, has all their calls in order, and no others.
+    // One run of the log, from its opening, has all their calls, each worker's in order, and no
+    // other events of theirs.
     ensures run { IfOk result (λ back. AreOnOneRun (map returned_worker back.items)) }
     // It began with the state.
     ensures begun { IfOk result (λ _. B.done begin.now state.old state.new) }

@@ -15,7 +15,7 @@ ghost use Rattle.mc_conn.specs.Alone.{commands_of, first_mark};
 ghost use Rattle.uc_log.specs.Passes.{IsNew};
 ghost use Rattle.uc_worker.specs.Worker.{HasReplayedAll, history_of, openings_of, tables_of};
 
-use crate::serving::{Memory, refuse_to_open};
+use crate::serving::{Service, refuse_to_open};
 use crate::turning_over::TurnOver;
 use mc_conn::{Conn, State, pump, pump_until};
 use mc_model::Fault;
@@ -24,7 +24,7 @@ use std::alloc::Global;
 use std::mem;
 use std::sync::Wait;
 use uc_log::{Log, Pass};
-use uc_worker::{Base, Hashing, Next, Worker};
+use uc_worker::{Base, Next, Worker};
 
 /// Opens the log that follows this one, all of whose places its one worker has replayed.
 ///
@@ -85,8 +85,7 @@ fn serve_to_end<R: Wait, I: Input, O: Output>(
 /// Returns the errors of `pump`.
 fn serve_log<R: Wait, T: TurnOver, I: Input, O: Output>(
     rt: &R,
-    alloc: Global,
-    over: &T,
+    service: &Service<'_, T>,
     log: &Log,
     worker: &mut Worker<'_>,
     is_last: bool,
@@ -124,7 +123,7 @@ fn serve_log<R: Wait, T: TurnOver, I: Input, O: Output>(
     }
     match pump_until(rt, conn, worker, input, output)? {
         State::Closed => Ok(None),
-        State::Full => match next_log(alloc, over, log, worker) {
+        State::Full => match next_log(service.alloc, service.over, log, worker) {
             Some(next) => Ok(Some(next)),
             None => serve_to_end(rt, worker, conn, input, output),
         },
@@ -137,9 +136,7 @@ fn serve_log<R: Wait, T: TurnOver, I: Input, O: Output>(
 /// Returns `Memory` if memory runs out at the opening, which is reported to the client.
 fn open_first<R: Wait, T: TurnOver, I: Input, O: Output>(
     rt: &R,
-    alloc: Global,
-    hashing: Hashing,
-    over: &T,
+    service: &Service<'_, T>,
     log: &Log,
     pass: Pass,
     is_last: bool,
@@ -166,21 +163,11 @@ fn open_first<R: Wait, T: TurnOver, I: Input, O: Output>(
     ensures going { IfOk result (λ after. IfSome after (λ _. (conn.new.role ≡ Tenant 0)
         × (conn.new.is_closed ≡ false))) }
 {
-    let mut worker = match Worker::open(alloc, hashing, log, pass) {
+    let mut worker = match Worker::open(service.alloc, service.hashing, log, pass) {
         Ok(worker) => worker,
         Err(fault) => return Err(refuse_to_open(fault, output)),
     };
-    serve_log(
-        rt,
-        alloc,
-        over,
-        log,
-        &mut worker,
-        is_last,
-        conn,
-        input,
-        output,
-    )
+    serve_log(rt, service, log, &mut worker, is_last, conn, input, output)
 }
 
 /// Serves the client over its first log, as `serve_log` does.
@@ -188,13 +175,10 @@ fn open_first<R: Wait, T: TurnOver, I: Input, O: Output>(
 /// Returns `Memory` if memory runs out at the opening, which is reported to the client.
 fn serve_first<R: Wait, T: TurnOver, I: Input, O: Output>(
     rt: &R,
-    alloc: Global,
-    hashing: Hashing,
-    over: &T,
+    service: &Service<'_, T>,
     log: Log,
     pass: Pass,
     is_last: bool,
-    memory: Memory,
     conn: &mut Conn,
     input: &mut I,
     output: &mut O,
@@ -218,10 +202,8 @@ fn serve_first<R: Wait, T: TurnOver, I: Input, O: Output>(
     ensures going { IfOk result (λ after. IfSome after (λ _. (conn.new.role ≡ Tenant 0)
         × (conn.new.is_closed ≡ false))) }
 {
-    let served = open_first(
-        rt, alloc, hashing, over, &log, pass, is_last, conn, input, output,
-    );
-    if memory.is_left(&served) {
+    let served = open_first(rt, service, &log, pass, is_last, conn, input, output);
+    if service.memory.is_left(&served) {
         mem::forget(log);
     }
     served
@@ -233,8 +215,7 @@ fn serve_first<R: Wait, T: TurnOver, I: Input, O: Output>(
 /// Returns `Memory` if memory runs out at the opening, which is reported to the client.
 fn open_next<R: Wait, T: TurnOver, I: Input, O: Output>(
     rt: &R,
-    alloc: Global,
-    over: &T,
+    service: &Service<'_, T>,
     log: &Log,
     pass: Pass,
     base: &Base,
@@ -266,24 +247,14 @@ fn open_next<R: Wait, T: TurnOver, I: Input, O: Output>(
 {
     // The law from which that follows, if the worker can't be opened.
     mc_read::laws::every_stream_reads();
-    let mut worker = match Worker::open_over(alloc, log, pass, base) {
+    let mut worker = match Worker::open_over(service.alloc, log, pass, base) {
         Ok(worker) => worker,
         Err(fault) => {
             conn.close(fault, output);
             return Err(fault);
         }
     };
-    serve_log(
-        rt,
-        alloc,
-        over,
-        log,
-        &mut worker,
-        is_last,
-        conn,
-        input,
-        output,
-    )
+    serve_log(rt, service, log, &mut worker, is_last, conn, input, output)
 }
 
 /// Serves the client over a later log, as `serve_log` does.
@@ -291,11 +262,9 @@ fn open_next<R: Wait, T: TurnOver, I: Input, O: Output>(
 /// Returns `Memory` if memory runs out at the opening, which is reported to the client.
 fn serve_next<R: Wait, T: TurnOver, I: Input, O: Output>(
     rt: &R,
-    alloc: Global,
-    over: &T,
+    service: &Service<'_, T>,
     next: Next,
     is_last: bool,
-    memory: Memory,
     conn: &mut Conn,
     input: &mut I,
     output: &mut O,
@@ -325,35 +294,30 @@ fn serve_next<R: Wait, T: TurnOver, I: Input, O: Output>(
     let Some(pass) = passes.pop() else {
         unreachable!()
     };
-    let served = open_next(
-        rt, alloc, over, &log, pass, &base, is_last, conn, input, output,
-    );
-    if memory.is_left(&served) {
+    let served = open_next(rt, service, &log, pass, &base, is_last, conn, input, output);
+    if service.memory.is_left(&served) {
         mem::forget(log);
         mem::forget(base);
     }
     served
 }
 
-/// Serves the client over a log, and over up to `generations` logs in total, one after another.
+/// Serves the client over a log, and over as many logs in total as the service may have, one after
+/// another.
 ///
 /// Returns the errors of `pump`.
 pub(crate) fn serve_logs<R: Wait, T: TurnOver, I: Input, O: Output>(
     rt: &R,
-    alloc: Global,
-    hashing: Hashing,
-    over: &T,
+    service: &Service<'_, T>,
     log: Log,
     pass: Pass,
-    generations: u64,
-    memory: Memory,
     conn: &mut Conn,
     input: &mut I,
     output: &mut O,
 ) -> Result<(), Fault>
     requires alone { IsForOne log }
     requires new { IsNew log 0 pass }
-    requires generations { 1 ≤ generations }
+    requires generations { 1 ≤ service.now.generations }
     requires role { conn.old.role ≡ Tenant 0 }
     requires going { conn.old.is_closed ≡ false }
     ensures served { (limits : Limits) (places : ℕ) →
@@ -361,22 +325,21 @@ pub(crate) fn serve_logs<R: Wait, T: TurnOver, I: Input, O: Output>(
         (both (I.tells input.old) (O.tells output.old)) →
         log.settings ≡ settings_alone limits places →
         MatchResult result
-        (λ _. ServesByLogs T.refused limits places generations
+        (λ _. ServesByLogs T.refused limits places service.now.generations
         (both (I.tells input.old) (O.tells output.old))
         (both (I.tells input.new) (O.tells output.new)))
-        (StopsByLogs limits places generations (both (I.tells input.old) (O.tells output.old))
+        (StopsByLogs limits places service.now.generations
+        (both (I.tells input.old) (O.tells output.old))
         (both (I.tells input.new) (O.tells output.new))) }
 {
-    let is_last = generations == 1;
-    let first = serve_first(
-        rt, alloc, hashing, over, log, pass, is_last, memory, conn, input, output,
-    )?;
+    let is_last = service.generations == 1;
+    let first = serve_first(rt, service, log, pass, is_last, conn, input, output)?;
     let Some(mut next) = first else {
         return Ok(());
     };
-    for earlier in 1..generations {
-        let is_last = earlier + 1 == generations;
-        match serve_next(rt, alloc, over, next, is_last, memory, conn, input, output)? {
+    for earlier in 1..service.generations {
+        let is_last = earlier + 1 == service.generations;
+        match serve_next(rt, service, next, is_last, conn, input, output)? {
             Some(after) => next = after,
             None => return Ok(()),
         }

@@ -74,47 +74,46 @@ impl Memory {
     }
 }
 
+/// How one client is served over logs of its own.
+#[derive(Drop)]
+pub(crate) struct Service<'t, T> {
+    pub(crate) alloc: Global,
+    pub(crate) hashing: Hashing,
+    /// What opens the log that follows a full one.
+    pub(crate) over: &'t T,
+    /// The quotas of the only tenant.
+    pub(crate) limits: Limits,
+    /// How many places each log has.
+    pub(crate) places: u64,
+    /// How many logs there may be in total.
+    pub(crate) generations: u64,
+    pub(crate) memory: Memory,
+}
+
 /// Serves one client as `serve_client` does, but may leave the memory of the last log's commands to
 /// the operating system.
 pub(crate) fn serve_and_leave<R: Wait, T: TurnOver, I: Input, O: Output>(
     rt: &R,
-    alloc: Global,
-    hashing: Hashing,
-    over: &T,
-    limits: Limits,
-    places: u64,
-    generations: u64,
-    memory: Memory,
+    service: &Service<'_, T>,
     input: &mut I,
     output: &mut O,
 ) -> Result<(), Fault>
-    requires generations { 1 ≤ generations }
+    requires generations { 1 ≤ service.now.generations }
     ensures outcome { MatchResult result
-        (λ _. ServesByLogs T.refused limits places generations
-        (both (I.tells input.old) (O.tells output.old))
+        (λ _. ServesByLogs T.refused service.now.limits service.now.places
+        service.now.generations (both (I.tells input.old) (O.tells output.old))
         (both (I.tells input.new) (O.tells output.new)))
-        (StopsService limits places generations (both (I.tells input.old) (O.tells output.old))
+        (StopsService service.now.limits service.now.places service.now.generations
+        (both (I.tells input.old) (O.tells output.old))
         (both (I.tells input.new) (O.tells output.new))) }
 {
-    let (log, pass) = match open_alone(alloc, limits, places) {
+    let (log, pass) = match open_alone(service.alloc, service.limits, service.places) {
         Ok(opened) => opened,
         Err(fault) => return Err(refuse_to_open(fault, output)),
     };
-    let mut conn = Conn::new(alloc, first_tenant());
-    let served = serve_logs(
-        rt,
-        alloc,
-        hashing,
-        over,
-        log,
-        pass,
-        generations,
-        memory,
-        &mut conn,
-        input,
-        output,
-    );
-    if let Memory::Left = memory {
+    let mut conn = Conn::new(service.alloc, first_tenant());
+    let served = serve_logs(rt, service, log, pass, &mut conn, input, output);
+    if let Memory::Left = service.memory {
         mem::forget(conn);
     }
     served
@@ -155,16 +154,14 @@ pub fn serve_client<R: Wait, T: TurnOver, I: Input, O: Output>(
         (StopsService limits places generations (both (I.tells input.old) (O.tells output.old))
         (both (I.tells input.new) (O.tells output.new))) }
 {
-    serve_and_leave(
-        rt,
+    let service = Service {
         alloc,
         hashing,
         over,
         limits,
         places,
         generations,
-        Memory::Freed,
-        input,
-        output,
-    )
+        memory: Memory::Freed,
+    };
+    serve_and_leave(rt, &service, input, output)
 }

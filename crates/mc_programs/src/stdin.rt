@@ -5,7 +5,7 @@ ghost use Rattle.mc_stream.specs.Stream.{both};
 
 use crate::faults::{fail, tell_fault};
 use crate::options::read_words;
-use crate::serving::{Memory, serve_and_leave};
+use crate::serving::{Memory, Service, serve_and_leave};
 use crate::turning_over::TurnOver;
 use crate::words::answer_words;
 use mc_model::Fault;
@@ -56,18 +56,16 @@ pub fn run_stdin<R: Wait, T: TurnOver, I: Input, O: Output, E: Output>(
         tell_fault(rt, NAME, Fault::BadSettings, errors);
         return 2;
     }
-    let served = serve_and_leave(
-        rt,
+    let service = Service {
         alloc,
         hashing,
         over,
-        options.limits,
-        options.places,
-        options.generations,
-        Memory::Left,
-        input,
-        output,
-    );
+        limits: options.limits,
+        places: options.places,
+        generations: options.generations,
+        memory: Memory::Left,
+    };
+    let served = serve_and_leave(rt, &service, input, output);
     match served {
         Ok(()) => 0,
         Err(fault) => fail(rt, NAME, fault, errors),

@@ -1,6 +1,7 @@
 -- What the logs of a run of wfmc come to, one after another. Herlihy's universal construction
 -- (Wait-Free Synchronization, TOPLAS 1991) has one log without an end; that it is cut into logs of
 -- a fixed number of places is this project's profile.
+use denote.Struct.Props.{props}
 use Rattle.std.specs.List.{AllZip}
 use Rattle.std.specs.Prelude.{◌≡◌, ◌⊎◌, ◌<◌, ◌≤◌, ⊤, ℕ, ◌+◌, Bool, false, List, [], All, MatchResult, Option, None, Result, Some, length, slice_get, vec_len}
 use Rattle.mc_connections.specs.Asking.{HaveBeenAsked}
@@ -48,6 +49,11 @@ abbrev pub FitsOver : Log → Option Base → Type 0
 FitsOver log None = ⊤
 FitsOver log (Some base) = (length base.tables.items ≡ length log.settings.tenants)
     × HaveRoom base.tables.items log.settings.places
+
+-- in at most one way
+pub FitsOver-prop : (log : Log) (base : Option Base) → IsProp (FitsOver log base)
+FitsOver-prop log None = hlevel props
+FitsOver-prop log (Some base) = hlevel props
 
 -- a worker with this pass of the log was opened over these tables, and has done nothing; or memory
 -- ran out

@@ -1,19 +1,19 @@
 //! Serving logs one after another: a log is closed, and the next one is opened over its tables.
 ghost use Rattle.std.specs.List.{AllZip};
-ghost use Rattle.std.specs.Prelude.{◌≡◌, ◌↔◌, ◌⊎◌, ◌<◌, ◌≤◌, ⊤, All, None, true, false, ℕ, IfErr, IfOk, IfSome, IsTrue, List, MatchResult, length, slice_get, Some};
+ghost use Rattle.std.specs.Prelude.{◌≡◌, ◌↔◌, ◌⊎◌, ◌<◌, ◌≤◌, All, None, true, false, ℕ, IfErr, IfOk, IfSome, IsTrue, List, MatchResult, length};
 ghost use Rattle.mc_connections.specs.InTurn.{InTurn};
 ghost use Rattle.mc_model.specs.State.{TableState};
 ghost use Rattle.mc_net.specs.Beginning.{HaltsServing};
 ghost use Rattle.mc_net.specs.Halting.{IsNetworkFault};
 ghost use Rattle.mc_net.specs.Running.{IsEmptyLoop, IsNewLoop, each_followed_by};
 ghost use Rattle.mc_server.specs.Crew.{AreWorkersOf};
-ghost use Rattle.mc_server.specs.Logs.{AreOpenedOver, AreServedBy, CanBeFollowed, Closes, FitsOver, IsFrontOf, IsNextLog, LogsWere, ServesTo, WereServedAt, tables_over};
+ghost use Rattle.mc_server.specs.Logs.{AreOpenedOver, AreServedBy, CanBeFollowed, Closes, IsFrontOf, IsNextLog, LogsWere, ServesTo, WereServedAt, tables_over};
 ghost use Rattle.mc_server.specs.declared.generations.TheConstants.{MOST_PLACES};
-ghost use Rattle.uc_log.specs.Passes.{IsNew, IsUnusedPass};
 ghost use Rattle.uc_worker.specs.AllWorkers.{AreOnOneRun};
 ghost use Rattle.uc_worker.specs.Going.{CatchesUp, Continues};
 
 use crate::crew::{meet_and_close, open_workers};
+use crate::opened::Opened;
 use crate::scraping::LogWatch;
 use mc_model::Fault;
 use mc_net::{Begin, Ended, Front};
@@ -21,7 +21,7 @@ use std::alloc::Global;
 use std::sync::Wait;
 use std::thread::Threads;
 use std::time::Clock;
-use uc_log::{Log, Pass};
+use uc_log::Log;
 use uc_worker::{Base, Hashing, Next, Open, Worker, catch_up_all, turn_over};
 
 /// What serving a log has come to.
@@ -176,8 +176,7 @@ fn serve_log<'a, R: Threads + Wait + Clock + Sync, B: Begin<S>, S>(
     Ok(Served::Done(meet_and_close(alloc, log, workers)?))
 }
 
-/// Opens the workers of a log, over the tables of the base if there is one, and serves it as
-/// `serve_log` does. Returns also what is left of it.
+/// Opens the workers of a log, and serves it as `serve_log` does. Returns also what is left of it.
 ///
 /// Returns the errors of `serve_log`, and `Memory` if memory runs out.
 fn serve_opened<R: Threads + Wait + Clock + Sync, B: Begin<S>, S>(
@@ -186,28 +185,22 @@ fn serve_opened<R: Threads + Wait + Clock + Sync, B: Begin<S>, S>(
     hashing: Hashing,
     watch: &mut LogWatch,
     front: &mut Front,
-    log: Log,
-    passes: Vec<Pass>,
-    base: Option<Base>,
+    opened: Opened,
     is_last: bool,
     begin: &B,
     state: &mut S,
 ) -> Result<(Served, Closed), Fault>
-    requires passes { (number : ℕ) (pass : _) → slice_get passes.items number ≡ Some pass
-        → IsNew log number pass }
-    requires unused { (number : ℕ) (pass : _) → slice_get passes.items number ≡ Some pass
-        → IsUnusedPass log pass }
-    requires count { length passes.items ≡ log.settings.workers }
-    requires some { 0 < log.settings.workers }
-    requires base { FitsOver log base }
-    requires front { IsFrontOf log.settings front.old }
+    requires some { 0 < opened.log.settings.workers }
+    requires front { IsFrontOf opened.log.settings front.old }
     ensures serves { IfOk result (λ pair. (logs places : ℕ) (who : List InTurn) →
-        LogsWere log.settings logs places who (tables_over log base) → AreServedBy who front.old →
-        ServesTo log.settings is_last logs places front.new pair.0) }
-    ensures front { IfOk result (λ _. IsFrontOf log.settings front.new) }
+        LogsWere opened.log.settings logs places who (tables_over opened.log opened.base) →
+        AreServedBy who front.old →
+        ServesTo opened.log.settings is_last logs places front.new pair.0) }
+    ensures front { IfOk result (λ _. IsFrontOf opened.log.settings front.new) }
     ensures outcome { MatchResult result (λ _. B.done begin.now state.old state.new)
         (HaltsServing (B.done begin.now) (B.stopped begin.now) state.old state.new) }
 {
+    let Opened { log, passes, base } = opened;
     let workers = open_workers(rt, alloc, hashing, &log, passes, &base)?;
     watch.note_begin(rt);
     let served = serve_log(
@@ -241,16 +234,14 @@ fn serve_next<R: Threads + Wait + Clock + Sync>(
     ensures front { IfOk result (λ _. IsFrontOf next.log.settings front.new) }
     ensures faults { IfErr result IsNetworkFault }
 {
-    let Next { log, passes, base } = next;
+    let opened = Opened::over(next);
     let (served, left) = serve_opened(
         rt,
         alloc,
         hashing,
         watch,
         front,
-        log,
-        passes,
-        Some(base),
+        opened,
         is_last,
         &FreeClosed,
         closed,
@@ -266,6 +257,7 @@ const MOST_PLACES: u64 = u64::MAX - 4_194_304;
 /// Returns whether the log of this number, counted from 1, is the last one of `most` logs (0: no
 /// end), or of as many as may have places. Of the logs before it `total` places were used.
 fn is_last_log(most: u64, number: u64, total: u64) -> bool
+    ensures last { result ≡ true → (0 < most) × (most ≤ number) ⊎ (MOST_PLACES < total) }
     ensures more { result ≡ false → (most ≡ 0) ⊎ (number < most) }
     ensures total { result ≡ false → total ≤ MOST_PLACES }
 {
@@ -283,23 +275,19 @@ pub(crate) fn serve_logs<R: Threads + Wait + Clock + Sync, B: Begin<S>, S>(
     hashing: Hashing,
     watch: &mut LogWatch,
     front: &mut Front,
-    log: Log,
-    passes: Vec<Pass>,
+    opened: Opened,
     most: u64,
     begin: &B,
     state: &mut S,
 ) -> Result<u64, Fault>
-    requires passes { (number : ℕ) (pass : _) → slice_get passes.items number ≡ Some pass
-        → IsNew log number pass }
-    requires unused { (number : ℕ) (pass : _) → slice_get passes.items number ≡ Some pass
-        → IsUnusedPass log pass }
-    requires count { length passes.items ≡ log.settings.workers }
-    requires some { 0 < log.settings.workers }
-    requires places { log.settings.places ≤ 1048576 }
-    requires front { IsFrontOf log.settings front.old }
-    requires new { All (IsNewLoop (length log.settings.tenants)) front.old.event_loops.items }
+    requires empty { opened.base ≡ None }
+    requires some { 0 < opened.log.settings.workers }
+    requires places { opened.log.settings.places ≤ 1048576 }
+    requires front { IsFrontOf opened.log.settings front.old }
+    requires new { All (IsNewLoop (length opened.log.settings.tenants))
+        front.old.event_loops.items }
     ensures served { IfOk result
-        (λ number. WereServedAt log.settings most number front.new) }
+        (λ number. WereServedAt opened.log.settings most number front.new) }
     ensures outcome { MatchResult result (λ _. B.done begin.now state.old state.new)
         (HaltsServing (B.done begin.now) (B.stopped begin.now) state.old state.new) }
 {
@@ -310,7 +298,7 @@ pub(crate) fn serve_logs<R: Threads + Wait + Clock + Sync, B: Begin<S>, S>(
     let mut total = 0;
     let mut is_last = is_last_log(most, number, total);
     let (first, left) = serve_opened(
-        rt, alloc, hashing, watch, front, log, passes, None, is_last, begin, state,
+        rt, alloc, hashing, watch, front, opened, is_last, begin, state,
     )?;
     let mut served = first;
     let mut closed = Some(left);

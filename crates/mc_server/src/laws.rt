@@ -8,13 +8,15 @@ ghost use Rattle.mc_server.specs.Listeners.{clients_asked, roles_asked};
 ghost use Rattle.mc_server.specs.NetworkWords.{NetworkAsked, NetworkGiven, admin_name, settings_asked, workers_for};
 ghost use Rattle.mc_server.specs.TenantWord.{TenantAsked};
 ghost use Rattle.mc_programs.specs.declared.options.TheConstants.{MAX_GENERATIONS};
+ghost use Rattle.mc_server.specs.declared.generations.TheConstants.{MOST_PLACES};
 ghost use Rattle.mc_server.specs.declared.network_words.TheConstants.{MAX_LOG_BYTES};
 
 /// At most 65,536 logs may be asked for, one after another, and at most 1,099,511,627,776 bytes of
-/// a log's commands.
+/// a log's commands. Logs without an end go on until some 2^64 places of them were used.
 pub fn numbers_of_a_service()
     ensures generations { MAX_GENERATIONS ≡ 65536 }
     ensures log_bytes { MAX_LOG_BYTES ≡ 1099511627776 }
+    ensures places { MOST_PLACES ≡ 18446744073705357311 }
 {}
 
 /// What the words say of a tenant is its own: at its number stand the listener at its address, its
@@ -39,7 +41,8 @@ pub fn each_tenant_has_what_its_word_says()
 /// What the workers of a log have done, of all logs of a run of `wfmc` that ends, is one run of the
 /// core, the machine of the headline, over the tables that the log was opened over: each log that
 /// another has followed, and the last one. The core's log is the history that its workers have, and
-/// its replies to their own commands are those that connections are owed for them.
+/// each reply that a connection is owed for a command that has a place there is one of its replies.
+/// It also answers a command whose worker ran out of memory, for which no connection is owed one.
 pub fn each_log_is_one_run_of_the_core()
     ensures closed { ClosedLogsAreCoreRuns }
     ensures last { LastLogsAreCoreRuns }

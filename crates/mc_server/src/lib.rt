@@ -15,6 +15,7 @@ mod listeners;
 mod network;
 mod network_texts;
 mod network_words;
+mod opened;
 mod scraping;
 mod tenant_word;
 mod wanted;

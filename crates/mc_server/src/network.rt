@@ -14,6 +14,7 @@ use crate::generations::serve_logs;
 use crate::listeners::{Listeners, Stop, bind_all, bind_metrics};
 use crate::network_texts::{NAME, ready_text, tell_cannot_listen, tell_done};
 use crate::network_words::{Service, read_words, service_of};
+use crate::opened::Opened;
 use crate::scraping::{LogWatch, Scraping, Shows, new_shows};
 use crate::wanted::wanted_by;
 use mc_model::Fault;
@@ -28,7 +29,6 @@ use std::random::RandomSource;
 use std::sync::Wait;
 use std::thread::{Threads, join_mut};
 use std::time::Clock;
-use uc_log::Log;
 use uc_worker::Hashing;
 
 /// Opens the first log, and serves that and those after it at the front, as `serve_logs` does.
@@ -54,11 +54,9 @@ fn serve_all<R: Threads + Wait + Clock + Sync, B: Begin<S>, S>(
     ensures outcome { MatchResult result (λ _. B.done begin.now state.old state.new)
         (HaltsServing (B.done begin.now) (B.stopped begin.now) state.old state.new) }
 {
-    let (log, passes) = Log::open(alloc, &service.settings)?;
+    let opened = Opened::first(alloc, &service.settings)?;
     let most = service.generations;
-    serve_logs(
-        rt, alloc, hashing, watch, front, log, passes, most, begin, state,
-    )
+    serve_logs(rt, alloc, hashing, watch, front, opened, most, begin, state)
 }
 
 /// Does as `serve_all`, and then stops the loop of the listener for metrics.

@@ -87,8 +87,9 @@ pub record IsAnswer (core : CoreState) (worker place : ℕ) (reply : Reply) : Ty
   pub limits : slice_get core.openings entry.tenant ≡ Some opening
   pub replied : reply ≡ answer opening (own entry.tenant (take place (log_of core))) entry.command
 
--- "each replied command's reply is the bytes that memcached's commands give on a table holding only
--- its tenant's commands in log order"
+-- "each replayed command's reply is the bytes that memcached's commands give on a table holding only
+-- its tenant's commands in log order": each reply that was given is the answer there. Its bytes are
+-- `text` of it (mc_write); that one was given is `OwnAreAnswered`.
 abbrev pub RepliesAreAnswers : CoreState → List Given → Type 0
 RepliesAreAnswers core given = (k worker place : ℕ) (reply : Reply) →
     slice_get given k ≡ Some (worker, place, reply) → IsAnswer core worker place reply

@@ -79,9 +79,9 @@ impl<'a> Worker<'a> {
     /// Returns whether its log is closing: fewer places are left, after those that the worker has
     /// learned, than there are workers. In a log with fewer places than workers, whether none is.
     ///
-    /// If each worker of a log leaves its commands to the next log from then on, each command that
-    /// was announced before finds its place: a worker announces at most one once the others have
-    /// come that far.
+    /// In a log with a place for each worker, each command that was announced before finds its place
+    /// if each worker leaves its commands to the next log from then on: a worker announces at most
+    /// one once the others have come that far. In a smaller log one may find none.
     pub fn is_closing(&self) -> bool
         ensures { IsTrue result ↔ IsClosing self.now }
     {

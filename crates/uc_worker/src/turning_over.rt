@@ -57,7 +57,7 @@ pub struct Next {
 /// Lets each of these workers catch up, one after another. If no other does anything meanwhile, all
 /// have replayed the same number of places then.
 ///
-/// Returns `Memory` if memory runs out: the workers after the one that meets it are unchanged then.
+/// Returns `Memory` if memory runs out: each worker may have caught up with some of the log then.
 pub fn catch_up_all(workers: &mut [Worker<'_>]) -> Result<(), Fault>
     ensures catches { AllZip CatchesUp workers.old workers.new }
     // Each has read on as far as `Worker::catch_up` does, when it was its turn.
@@ -188,7 +188,8 @@ fn base_of(alloc: Global, workers: &[Worker<'_>]) -> Result<Base, Fault>
 /// still announce where places are left, and the new log wouldn't know. The quotas there are those
 /// of the tables; the settings only say how many tenants there are.
 ///
-/// Returns `Memory` if memory runs out. The workers are as they were before in either case.
+/// Returns `Memory` if memory runs out. In either case each worker's log, opening tables, history
+/// and tables are what they were, and it has learned and announced nothing.
 pub fn turn_over(
     alloc: Global,
     workers: &mut [Worker<'_>],

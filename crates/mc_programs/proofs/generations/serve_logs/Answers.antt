@@ -10,13 +10,13 @@ returns-in_err-first g c =
     let out = err_from_is_err_and c.from_residual.result c.from_residual.ensures.1 in
     record {
       served = λ limits places begun settings.
-          rw (out.1, out.2) (stops_within limits places 1 c.args.generations _ _ c.in_err-first.field-0.0 c.requires.generations (c.in_err-first.ensures.served limits places begun settings));
+          rw (out.1, out.2) (stops_within limits places 1 c.args.service.now.generations _ _ c.in_err-first.field-0.0 c.requires.generations (c.in_err-first.ensures.served limits places begun settings));
     }
 
 pub returns-in_default : goal.returns-in_default
 returns-in_default g c = record {
   served = λ limits places begun settings.
-      ended_by g.T.TurnOver.refused limits places 0 c.args.generations _ _ _ _ c.in_ok-first.first c.requires.generations (λ last. sym (eqb-true c.args.generations 1 last)) c.in_default.not-Some (c.in_ok-first.ensures.served limits places begun settings);
+      ended_by g.T.TurnOver.refused limits places 0 c.args.service.now.generations _ _ _ _ c.in_ok-first.first c.requires.generations (λ last. sym (eqb-true c.args.service.now.generations 1 last)) c.in_default.not-Some (c.in_ok-first.ensures.served limits places begun settings);
 }
 
 pub loop-earlier-init : goal.loop-earlier-init
@@ -25,7 +25,7 @@ loop-earlier-init g c =
     let going = rw c.in-Some.is at c.in_ok-first.ensures.going in
     record {
       some = omega arith;
-      below = omega (arith, eqb-false c.args.generations 1 ready.0, c.requires.generations);
+      below = omega (arith, eqb-false c.args.service.now.generations 1 ready.0, c.requires.generations);
       ready = ready.1;
       role = going.0;
       going = going.1;
@@ -39,8 +39,8 @@ returns-in_err-after g c =
     record {
       served = λ limits places begun settings.
           let before = so_far.served limits places begun settings in
-          let enough : c.loop-earlier.earlier + 1 ≤ c.args.generations = omega (arith, so_far.below) in
-          rw (out.1, out.2) (stops_within limits places (c.loop-earlier.earlier + 1) c.args.generations _ _ c.in_err-after.field-0.0 enough
+          let enough : c.loop-earlier.earlier + 1 ≤ c.args.service.now.generations = omega (arith, so_far.below) in
+          rw (out.1, out.2) (stops_within limits places (c.loop-earlier.earlier + 1) c.args.service.now.generations _ _ c.in_err-after.field-0.0 enough
           (c.in_err-after.ensures.served limits places c.loop-earlier.earlier _ before.0 before.1 so_far.some));
     }
 
@@ -54,7 +54,7 @@ returns-in-None g c =
             c.loop-earlier.earlier + 1,
             (omega arith, omega (arith, so_far.below)),
             serves.0,
-            ⊎_elim (λ last. inl (eqb-true (c.loop-earlier.earlier + 1) c.args.generations last)) (λ why. inr why) serves.1,
+            ⊎_elim (λ last. inl (eqb-true (c.loop-earlier.earlier + 1) c.args.service.now.generations last)) (λ why. inr why) serves.1,
           );
     }
 
@@ -65,7 +65,7 @@ loop-earlier-preserved g c =
     let going = rw c.in-Some-2.is at c.in_ok-after.ensures.going in
     record {
       some = omega arith;
-      below = omega (arith, eqb-false (c.loop-earlier.earlier + 1) c.args.generations ready.0, so_far.below);
+      below = omega (arith, eqb-false (c.loop-earlier.earlier + 1) c.args.service.now.generations ready.0, so_far.below);
       ready = ready.1;
       role = going.0;
       going = going.1;

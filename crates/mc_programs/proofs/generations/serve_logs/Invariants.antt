@@ -10,7 +10,7 @@ use Rattle.mc_programs.proofs.generations.serve_logs.Given as goal
 abbrev pub invariant-loop-earlier : goal.invariant-loop-earlier
 invariant-loop-earlier g l = record {
   some : 1 ≤ l.earlier;
-  below : l.earlier < l.fn.generations;
+  below : l.earlier < l.fn.service.generations;
   ready : IsNextForOne l.next;
   role : l.conn.role ≡ Tenant 0;
   going : l.conn.is_closed ≡ false;

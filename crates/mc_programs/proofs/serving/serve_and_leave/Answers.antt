@@ -8,15 +8,15 @@ use Rattle.mc_programs.proofs.serving.serve_and_leave.Goals as goal
 pub returns-in-Left : goal.returns-in-Left
 returns-in-Left g c =
     let role = c.new-conn.ensures.role ∙ ap Tenant c.first_tenant.ensures in
-    let begun = not_yet c.args.limits c.args.places c.new-conn.result _ role (c.new-conn.ensures.holding ∙ ap nothing_held role) c.new-conn.ensures.queue c.new-conn.ensures.open in
-    record { outcome = by_logs g.T.TurnOver.refused c.args.limits c.args.places c.args.generations _ _ c.serve_logs-served.result (c.serve_logs-served.ensures.served c.args.limits c.args.places begun c.in-Ok.ensures.opened.0) }
+    let begun = not_yet c.args.service.now.limits c.args.service.now.places c.new-conn.result _ role (c.new-conn.ensures.holding ∙ ap nothing_held role) c.new-conn.ensures.queue c.new-conn.ensures.open in
+    record { outcome = by_logs g.T.TurnOver.refused c.args.service.now.limits c.args.service.now.places c.args.service.now.generations _ _ c.serve_logs-served.result (c.serve_logs-served.ensures.served c.args.service.now.limits c.args.service.now.places begun c.in-Ok.ensures.opened.0) }
 
 pub returns-in_default : goal.returns-in_default
 returns-in_default g c =
     let role = c.new-conn.ensures.role ∙ ap Tenant c.first_tenant.ensures in
-    let begun = not_yet c.args.limits c.args.places c.new-conn.result _ role (c.new-conn.ensures.holding ∙ ap nothing_held role) c.new-conn.ensures.queue c.new-conn.ensures.open in
-    record { outcome = by_logs g.T.TurnOver.refused c.args.limits c.args.places c.args.generations _ _ c.serve_logs-served.result (c.serve_logs-served.ensures.served c.args.limits c.args.places begun c.in-Ok.ensures.opened.0) }
+    let begun = not_yet c.args.service.now.limits c.args.service.now.places c.new-conn.result _ role (c.new-conn.ensures.holding ∙ ap nothing_held role) c.new-conn.ensures.queue c.new-conn.ensures.open in
+    record { outcome = by_logs g.T.TurnOver.refused c.args.service.now.limits c.args.service.now.places c.args.service.now.generations _ _ c.serve_logs-served.result (c.serve_logs-served.ensures.served c.args.service.now.limits c.args.service.now.places begun c.in-Ok.ensures.opened.0) }
 
 pub returns-in-Err : goal.returns-in-Err
 returns-in-Err g c =
-    record { outcome = refused c.args.limits c.args.places c.args.generations c.in-Err.fault _ _ _ _ c.requires.generations c.refuse_to_open.ensures.fault c.in-Err.ensures.faults c.refuse_to_open.ensures.told }
+    record { outcome = refused c.args.service.now.limits c.args.service.now.places c.args.service.now.generations c.in-Err.fault _ _ _ _ c.requires.generations c.refuse_to_open.ensures.fault c.in-Err.ensures.faults c.refuse_to_open.ensures.told }

@@ -1,16 +1,18 @@
-use Rattle.std.proofs.Common.{◌+◌, arith, inl, inr, length, refl, subst, ⊎_elim}
+use Rattle.std.proofs.Common.{◌+◌, arith, inl, inr, length, refl, subst, sym, ⊎_elim, Option}
 use Rattle.mc_model.specs.Settings.{Configuration}
 use Rattle.mc_server.proofs.LogRuns.{first_few, nobody_at, nobody_there, one_more_few, served_by_nobody, were_served_at}
-use Rattle.mc_server.specs.Logs.{IsFrontOf, LogsWere, ServesTo, no_log_yet}
+use Rattle.mc_server.specs.Logs.{IsFrontOf, LogsWere, ServesTo, no_log_yet, tables_over}
+use Rattle.uc_worker.specs.declared.turning_over.Base.{Base}
 use Rattle.mc_server.proofs.generations.serve_logs.Goals as goal
 
 pub loop-init : goal.loop-init
 loop-init g c =
     let loops = c.args.front.now.event_loops.items in
+    let Begins = λ (base : Option Base). LogsWere c.args.opened.log.settings 0 0 (nobody_at loops) (tables_over c.args.opened.log base) in
     record {
       so_far = (
         0,
-        c.in_ok-first.ensures.serves 0 0 (nobody_at loops) (no_log_yet (nobody_at loops) (nobody_there loops)) (served_by_nobody (length c.args.log.settings.tenants) loops c.requires.new),
+        c.in_ok-first.ensures.serves 0 0 (nobody_at loops) (subst Begins (sym c.requires.empty) (no_log_yet (nobody_at loops) (nobody_there loops))) (served_by_nobody (length c.args.opened.log.settings.tenants) loops c.requires.new),
         first_few c.args.most,
       );
       more = c.is_last_log-is_last.ensures.more;
@@ -23,8 +25,8 @@ loop-init g c =
 pub returns-in-Done-clause-served : goal.returns-in-Done-clause-served
 returns-in-Done-clause-served g c =
     let so_far = c.loop.invariant.so_far in
-    let ends = subst (ServesTo c.args.log.settings c.loop.is_last so_far.0 c.loop.total c.loop.front) c.in-Done.is so_far.1 in
-    were_served_at c.connections_are_answered_over_logs.ensures c.commands_are_asked_for_over_logs.ensures c.args.log.settings c.args.most so_far.0 c.loop.total c.in-Done.last _ c.loop.front c.loop.invariant.front ends
+    let ends = subst (ServesTo c.args.opened.log.settings c.loop.is_last so_far.0 c.loop.total c.loop.front) c.in-Done.is so_far.1 in
+    were_served_at c.connections_are_answered_over_logs.ensures c.commands_are_asked_for_over_logs.ensures c.args.opened.log.settings c.args.most so_far.0 c.loop.total c.in-Done.last _ c.loop.front c.loop.invariant.front ends
     (⊎_elim (λ none. inl none) (λ few. inr few.1) so_far.2) refl
 
 -- the next log was served
@@ -32,7 +34,7 @@ pub loop-preserved : goal.loop-preserved
 loop-preserved g c =
     let before = c.loop.invariant in
     let so_far = before.so_far in
-    let settings = c.args.log.settings in
+    let settings = c.args.opened.log.settings in
     let used = c.in-Full.used in
     let total = c.loop.total + used in
     let went = subst (ServesTo settings c.loop.is_last so_far.0 c.loop.total c.loop.front) c.in-Full.is so_far.1 in

@@ -6,10 +6,10 @@ use Rattle.mc_server.proofs.generations.serve_logs.Given as goal
 
 abbrev pub invariant-loop : goal.invariant-loop
 invariant-loop g l = record {
-  so_far : (logs : ℕ) × ServesTo l.fn.log.settings l.is_last logs l.total l.front l.served × ((l.fn.most ≡ 0) ⊎ (l.number ≡ logs + 1) × (logs < l.fn.most));
+  so_far : (logs : ℕ) × ServesTo l.fn.opened.log.settings l.is_last logs l.total l.front l.served × ((l.fn.most ≡ 0) ⊎ (l.number ≡ logs + 1) × (logs < l.fn.most));
   more : l.is_last ≡ false → (l.fn.most ≡ 0) ⊎ (l.number < l.fn.most);
   total : l.is_last ≡ false → l.total ≤ MOST_PLACES;
   bound : l.total ≤ MOST_PLACES + 1048576;
-  front : IsFrontOf l.fn.log.settings l.front;
+  front : IsFrontOf l.fn.opened.log.settings l.front;
   begun : g.B.Begin.done l.fn.begin l.fn.state l.state;
 }
