@@ -12,7 +12,8 @@ ghost use Rattle.mc_server.specs.declared.generations.TheConstants.{MOST_PLACES}
 ghost use Rattle.mc_server.specs.declared.network_words.TheConstants.{MAX_LOG_BYTES};
 
 /// At most 65,536 logs may be asked for, one after another, and at most 1,099,511,627,776 bytes of
-/// a log's commands. Logs without an end go on until some 2^64 places of them were used.
+/// a log's commands. However many are asked for, a log is the last one once more than
+/// 18,446,744,073,705,357,311 places of those before it were used.
 pub fn numbers_of_a_service()
     ensures generations { MAX_GENERATIONS ≡ 65536 }
     ensures log_bytes { MAX_LOG_BYTES ≡ 1099511627776 }
