@@ -43,6 +43,7 @@ FLUSHED = 400_000
 PROCESSORS = sorted(os.sched_getaffinity(0))
 # As many names of one letter as a line of 65,536 bytes has.
 NAMES = 32_766
+SHORT_LINES = 16_384
 
 
 class Loaded:
@@ -105,6 +106,12 @@ def gets_many_names(client):
     return True
 
 
+def short_lines(client):
+    """As many lines of a byte as one read takes, behind a line so long that it takes as much."""
+    client.ask(b"x" * 2048 + b"\n" * SHORT_LINES + b"get n\r\n", b"END\r\n")
+    return True
+
+
 def appends(client):
     """A byte more, of an item that is made anew once it is full."""
     if client.line(b"append long 0 0 1\r\nx\r\n") != "STORED":
@@ -135,6 +142,7 @@ CASES = {
     "400 connections of depth 16": Loaded("400", "16"),
     "8 connections with items of 1 MB, half of them sets": Loaded("-d", "1000000", "-g", "50", "-k", "20", "8", "1"),
     f"a get of {NAMES:,} names": Rounds(gets_many_names, before=lambda client: client.line(a_set(b"n", 100))),
+    f"{SHORT_LINES:,} lines of a byte at once": Rounds(short_lines),
     "appends to an item of 1 MiB": Rounds(appends, before=lambda client: client.line(a_set(b"long", MEBIBYTE - 1000))),
     FLUSHES: Rounds(fills_and_flushes),
     "connections that are made and closed": Rounds(closes, clients=4),

@@ -91,7 +91,7 @@ breaks_in_time_later fault a b c one two first second =
     ))
     second
 
-pub fails_later : (until : Bool) (fault : Fault) (a b c : Scene) (did : Bool) → Does until a b did → BreaksFor until b c fault → BreaksFor until a c fault
+pub fails_later : {most left : ℕ} → (until : Bool) (fault : Fault) (a b c : Scene) (did : Bool) → Does until most a b did left → BreaksFor until b c fault → BreaksFor until a c fault
 fails_later until fault a b c did one two = record {
   breaks = breaks_later fault a b c one.takes two.breaks;
   in_time = λ is. breaks_in_time_later fault a b c one.takes two.breaks (one.in_time is) (two.in_time is);

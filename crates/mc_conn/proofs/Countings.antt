@@ -1,5 +1,5 @@
 -- Lemmas on what is counted of requests.
-use Rattle.std.proofs.Common.{◌≡◌, ◌≢◌, ℕ, cond, List, [], ◌∷◌, ◌++◌, Option, Some, None, Bool, false, sym, refl, ap, ◌∙◌, subst, arith, append-nil, append_assoc, sum_by}
+use Rattle.std.proofs.Common.{◌≡◌, ◌≢◌, ℕ, cond, List, [], ◌∷◌, ◌++◌, length, ◌+◌, ◌≤◌, Option, Some, None, Bool, false, sym, refl, ap, ◌∙◌, subst, arith, append-nil, append_assoc, length-append, sum_by}
 use Rattle.std.proofs.lemmas.List.Sums.{sum_by-cons, sum_by_push}
 use Rattle.mc_counters.specs.Kinds.{asked_for_by}
 use Rattle.mc_counters.specs.Tallied.{CountedRequest, IsTallyOf, capped, is_of_kind, is_refused, items_found, keys_missed}
@@ -177,3 +177,17 @@ tallies_later fault a b c one two three first second = record {
       (append_assoc earlier first.counted (second.counted ++ counted_at fault) ∙ ap (λ (all : List CountedRequest). earlier ++ all) (sym (append_assoc first.counted second.counted (counted_at fault))))
       (second.counts (earlier ++ first.counted) (first.counts earlier is));
 }
+
+-- one request counts as one reply at most
+pub counts_few : (role : Role) (request : Request) (bytes : List ℕ) (counted : List CountedRequest) → CountsFor role request bytes counted → length counted ≤ 1
+counts_few role (Logged command quiet) bytes counted is = omega (arith, ap length is.2)
+counts_few role (Limit name limits quiet) bytes counted is = omega (arith, ap length is.2)
+counts_few role (Local reply quiet) bytes counted is = omega (arith, ap length is.2)
+counts_few role Quit bytes counted is = omega (arith, ap length is.1)
+counts_few role TooLong bytes counted is = omega (arith, ap length is.2)
+
+-- a request that was taken: one fewer may be taken, and one more got a reply, or none did
+pub answers_one : (role : Role) (request : Request) (before after : List ℕ) (old new : List CountedRequest) (most left : ℕ) → Counts role request before after old new →
+    left + 1 ≡ most → length new + left ≤ length old + most
+answers_one role request before after old new most left counts one_less =
+    omega (arith, ap length counts.past, length-append old counts.counted, counts_few role request counts.bytes counts.counted counts.is, one_less)

@@ -13,7 +13,7 @@ use Rattle.uc_worker.specs.Going.{Continues}
 use Rattle.uc_worker.specs.declared.worker.Worker.{Worker}
 use Rattle.uc_worker.specs.contracts.laws.WorkerGoesOn.TheImpl.{continues_self-value, continues_through-value}
 use Rattle.mc_conn.specs.declared.conn.Conn.{Conn}
-use Rattle.mc_conn.specs.declared.conn.TheConstants.{PULL_BYTES, QUEUE_BYTES}
+use Rattle.mc_conn.specs.declared.conn.TheConstants.{PULL_BYTES, QUEUE_BYTES, TURN_REQUESTS}
 use Rattle.mc_conn.specs.declared.conn.Role.{Role}
 use Rattle.mc_conn.specs.declared.conn.State.{State}
 use Rattle.mc_conn.specs.declared.conn.State.TheVariants.{Closed, Idle, Busy, Full}
@@ -52,15 +52,15 @@ no_some None none = refl
 no_some (Some request) none = let no : true ≡ false = none in cc
 
 -- no request waits before a pull, so that none is held whole
-pub none_held : (until : Bool) (worker : Worker) (old new : Conn) (some long ended : Bool) → holding_of new ≡ holding_of old → IsHeldBehind until old worker → some ≡ is_some old.waiting → ((some || long) || ended) ≡ false →
+pub none_held : {allowed : ℕ} → (until : Bool) (worker : Worker) (old new : Conn) (some long ended : Bool) → holding_of new ≡ holding_of old → IsHeldBehind until allowed old worker → some ≡ is_some old.waiting → ((some || long) || ended) ≡ false →
     HoldsNone (holding_of new)
-none_held until worker old new some long ended same held is none =
+none_held {allowed} until worker old new some long ended same held is none =
     let free : old.waiting ≡ None = no_some old.waiting (sym is ∙ or_left some long (or_left (some || long) ended none)) in
     subst HoldsNone (sym same)
     (⊎_elim
     (λ (nothing : HoldsNone (holding_of old)). nothing)
-    (λ (others : (old.waiting ≢ None) × (QUEUE_BYTES < length (queue_of old)) ⊎ IsLeft until old worker).
-    absurd (⊎_elim (λ (behind : (old.waiting ≢ None) × (QUEUE_BYTES < length (queue_of old))). behind.0 free) (λ left. none_left until old worker free left) others))
+    (λ (others : (old.waiting ≢ None) × ((allowed ≡ 0) ⊎ (QUEUE_BYTES < length (queue_of old))) ⊎ IsLeft until old worker).
+    absurd (⊎_elim (λ (behind : (old.waiting ≢ None) × ((allowed ≡ 0) ⊎ (QUEUE_BYTES < length (queue_of old)))). behind.0 free) (λ left. none_left until old worker free left) others))
     held)
 
 -- the queue isn't too long before a push, so it isn't after it
@@ -218,12 +218,12 @@ nothing_in : (bytes : List ℕ) → length bytes ≡ 0 → bytes ≡ []
 nothing_in [] none = refl
 nothing_in (byte ∷ bytes) none = absurd (omega (arith, none))
 
-module _ (until : Bool) (a m n z : Scene) (before pulled last : Bool) (one : Does until a m before) (two : Does until m n pulled) (three : Does until n z last)
-    (held : IsHeldBehind until n.conn n.worker) (worker : z.worker ≡ n.worker) (role : z.conn.role ≡ n.conn.role) (same : holding_of z.conn ≡ holding_of n.conn) (ended : z.conn.has_ended ≡ n.conn.has_ended) (over : z.conn.is_over ≡ n.conn.is_over)
-    (stuck : pulled ≡ false → (waits n.streams.input.events ≡ waits m.streams.input.events + 1) ⊎ ((n.conn.has_ended ≡ true) ⊎ ((QUEUE_BYTES < length (queue_of n.conn)) ⊎ ((n.conn.is_over ≡ true) × (queue_of n.conn ≡ []) ⊎ IsLeft until n.conn n.worker))))
+module _ {early late : ℕ} (until : Bool) (a m n z : Scene) (before pulled last : Bool) (one : Does until TURN_REQUESTS a m before early) (two : Does until early m n pulled late) (three : Does until late n z last late)
+    (held : IsHeldBehind until late n.conn n.worker) (worker : z.worker ≡ n.worker) (role : z.conn.role ≡ n.conn.role) (same : holding_of z.conn ≡ holding_of n.conn) (ended : z.conn.has_ended ≡ n.conn.has_ended) (over : z.conn.is_over ≡ n.conn.is_over)
+    (stuck : pulled ≡ false → (waits n.streams.input.events ≡ waits m.streams.input.events + 1) ⊎ ((n.conn.has_ended ≡ true) ⊎ ((QUEUE_BYTES < length (queue_of n.conn)) ⊎ ((n.conn.is_over ≡ true) × (queue_of n.conn ≡ []) ⊎ (IsLeft until n.conn n.worker ⊎ (late ≡ 0))))))
     (first_input : m.streams.input ≡ a.streams.input) (last_input : z.streams.input ≡ n.streams.input)
     (left : (queue_of z.conn ≡ []) ⊎ (waits z.streams.output.events ≡ waits n.streams.output.events + 1)) where
-  all : Does until a z ((before || pulled) || last)
+  all : Does until TURN_REQUESTS a z ((before || pulled) || last) late
   all = does_trans until a n z (before || pulled) last (does_trans until a m n before pulled one two) three
 
   -- the queue before the last push was sent by it or is still there
@@ -251,9 +251,15 @@ module _ (until : Bool) (a m n z : Scene) (before pulled last : Bool) (one : Doe
   held_behind =
       ⊎_elim
       (λ (none : HoldsNone (holding_of n.conn)). inl (inl (subst HoldsNone (sym same) none)))
-      (λ (others : (n.conn.waiting ≢ None) × (QUEUE_BYTES < length (queue_of n.conn)) ⊎ IsLeft until n.conn n.worker). ⊎_elim
-      (λ (behind : (n.conn.waiting ≢ None) × (QUEUE_BYTES < length (queue_of n.conn))).
-      inl (inr ((λ none. behind.0 (sym (ap (λ (h : Holding). h.waiting) same) ∙ none)), omega (arith, behind.1, queue_left, sent_all))))
+      (λ (others : (n.conn.waiting ≢ None) × ((late ≡ 0) ⊎ (QUEUE_BYTES < length (queue_of n.conn))) ⊎ IsLeft until n.conn n.worker). ⊎_elim
+      (λ (behind : (n.conn.waiting ≢ None) × ((late ≡ 0) ⊎ (QUEUE_BYTES < length (queue_of n.conn)))).
+      inl (inr (
+        (λ none. behind.0 (sym (ap (λ (h : Holding). h.waiting) same) ∙ none)),
+        ⊎_elim
+            (λ (spent : late ≡ 0). inl (omega (arith, spent, all.fewer)))
+            (λ (long : QUEUE_BYTES < length (queue_of n.conn)). inr (omega (arith, long, queue_left, sent_all)))
+            behind.1,
+      )))
       (λ left. inr (still_left left))
       others)
       held
@@ -266,8 +272,8 @@ module _ (until : Bool) (a m n z : Scene) (before pulled last : Bool) (one : Doe
       left
 
   -- a request has ended the stream, and all is sent
-  over_rests : ¬ (IsLeft until z.conn z.worker) → amount three.takes ≡ 0 → n.conn.is_over ≡ true → queue_of n.conn ≡ [] → IsAtRest z.conn
-  over_rests unleft still is empty =
+  over_rests : ¬ (IsLeft until z.conn z.worker) → (late ≢ 0) → amount three.takes ≡ 0 → n.conn.is_over ≡ true → queue_of n.conn ≡ [] → IsAtRest z.conn
+  over_rests unleft unspent still is empty =
       let owed = owed_none z.worker n.conn.role (mark_of n.worker) (mark_of z.worker) three.takes.taken.requests three.takes.taken.owed (omega (arith, still)) three.takes.taken.owes in
       let queue =
       nothing_in (queue_of z.conn)
@@ -275,15 +281,21 @@ module _ (until : Bool) (a m n z : Scene) (before pulled last : Bool) (one : Doe
       in
       ⊎_elim
       (λ (none : HoldsNone (holding_of n.conn)). (inr (over ∙ is), ap (λ (h : Holding). h.waiting) same ∙ none.0, queue))
-      (λ (others : (n.conn.waiting ≢ None) × (QUEUE_BYTES < length (queue_of n.conn)) ⊎ IsLeft until n.conn n.worker). absurd (⊎_elim
-      (λ (behind : (n.conn.waiting ≢ None) × (QUEUE_BYTES < length (queue_of n.conn))). omega (arith, behind.1, ap length empty))
+      (λ (others : (n.conn.waiting ≢ None) × ((late ≡ 0) ⊎ (QUEUE_BYTES < length (queue_of n.conn))) ⊎ IsLeft until n.conn n.worker). absurd (⊎_elim
+      (λ (behind : (n.conn.waiting ≢ None) × ((late ≡ 0) ⊎ (QUEUE_BYTES < length (queue_of n.conn)))).
+      ⊎_elim (λ (spent : late ≡ 0). unspent spent) (λ (long : QUEUE_BYTES < length (queue_of n.conn)). omega (arith, long, ap length empty)) behind.1)
       (λ left. unleft (still_left left))
       others))
       held
 
+  -- where nothing was done no request was taken
+  all_left : ((before || pulled) || last) ≡ false → late ≢ 0
+  all_left none spent = let nothing : amount all.takes ≡ 0 = did_none _ _ none all.did_is in omega (arith, nothing, all.fewer, spent)
+
   is_stuck : ¬ (IsAtRest z.conn) → ¬ (IsLeft until z.conn z.worker) → ((before || pulled) || last) ≡ false → IsStuck a z
   is_stuck undone unleft none =
       let still : amount three.takes ≡ 0 = did_none last _ (or_right (before || pulled) last none) three.did_is in
+      let unspent : late ≢ 0 = all_left none in
       let long : (QUEUE_BYTES < length (queue_of n.conn)) → IsStuck a z =
       λ (behind : QUEUE_BYTES < length (queue_of n.conn)).
       let there : QUEUE_BYTES < length (queue_of z.conn) = omega (arith, behind, queue_left, still) in
@@ -291,21 +303,21 @@ module _ (until : Bool) (a m n z : Scene) (before pulled last : Bool) (one : Doe
       in
       ⊎_elim
       (λ (waited : waits n.streams.input.events ≡ waits m.streams.input.events + 1). inl (omega (arith, waited, first_waits, last_waits)))
-      (λ (rest : (n.conn.has_ended ≡ true) ⊎ ((QUEUE_BYTES < length (queue_of n.conn)) ⊎ ((n.conn.is_over ≡ true) × (queue_of n.conn ≡ []) ⊎ IsLeft until n.conn n.worker))).
+      (λ (rest : (n.conn.has_ended ≡ true) ⊎ ((QUEUE_BYTES < length (queue_of n.conn)) ⊎ ((n.conn.is_over ≡ true) × (queue_of n.conn ≡ []) ⊎ (IsLeft until n.conn n.worker ⊎ (late ≡ 0))))).
       ⊎_elim
       (λ (end : n.conn.has_ended ≡ true).
       ⊎_elim
       (λ (nothing : HoldsNone (holding_of n.conn)).
       inr (full_of (λ empty. undone (inl (ended ∙ end), ap (λ (h : Holding). h.waiting) same ∙ nothing.0, empty)), inl (ended ∙ end)))
-      (λ (others : (n.conn.waiting ≢ None) × (QUEUE_BYTES < length (queue_of n.conn)) ⊎ IsLeft until n.conn n.worker). ⊎_elim
-      (λ (behind : (n.conn.waiting ≢ None) × (QUEUE_BYTES < length (queue_of n.conn))). long behind.1)
+      (λ (others : (n.conn.waiting ≢ None) × ((late ≡ 0) ⊎ (QUEUE_BYTES < length (queue_of n.conn))) ⊎ IsLeft until n.conn n.worker). ⊎_elim
+      (λ (behind : (n.conn.waiting ≢ None) × ((late ≡ 0) ⊎ (QUEUE_BYTES < length (queue_of n.conn)))). ⊎_elim (λ (spent : late ≡ 0). absurd (unspent spent)) long behind.1)
       (λ left. absurd (unleft (still_left left)))
       others)
       held)
       (⊎_elim long
-      (λ (last : (n.conn.is_over ≡ true) × (queue_of n.conn ≡ []) ⊎ IsLeft until n.conn n.worker). absurd (⊎_elim
-      (λ (over : (n.conn.is_over ≡ true) × (queue_of n.conn ≡ [])). undone (over_rests unleft still over.0 over.1))
-      (λ left. unleft (still_left left))
+      (λ (last : (n.conn.is_over ≡ true) × (queue_of n.conn ≡ []) ⊎ (IsLeft until n.conn n.worker ⊎ (late ≡ 0))). absurd (⊎_elim
+      (λ (over : (n.conn.is_over ≡ true) × (queue_of n.conn ≡ [])). undone (over_rests unleft unspent still over.0 over.1))
+      (λ (others : IsLeft until n.conn n.worker ⊎ (late ≡ 0)). ⊎_elim (λ left. unleft (still_left left)) (λ (spent : late ≡ 0). unspent spent) others)
       last)))
       rest)
       (stuck (or_right before pulled (or_left (before || pulled) last none)))
@@ -314,8 +326,8 @@ module _ (until : Bool) (a m n z : Scene) (before pulled last : Bool) (one : Doe
   done_held done =
       ⊎_elim
       (λ (none : HoldsNone (holding_of n.conn)). (done.0, subst HoldsNone (sym same) none, done.2))
-      (λ (others : (n.conn.waiting ≢ None) × (QUEUE_BYTES < length (queue_of n.conn)) ⊎ IsLeft until n.conn n.worker). absurd (⊎_elim
-      (λ (behind : (n.conn.waiting ≢ None) × (QUEUE_BYTES < length (queue_of n.conn))). behind.0 (sym (ap (λ (h : Holding). h.waiting) same) ∙ done.1))
+      (λ (others : (n.conn.waiting ≢ None) × ((late ≡ 0) ⊎ (QUEUE_BYTES < length (queue_of n.conn))) ⊎ IsLeft until n.conn n.worker). absurd (⊎_elim
+      (λ (behind : (n.conn.waiting ≢ None) × ((late ≡ 0) ⊎ (QUEUE_BYTES < length (queue_of n.conn)))). behind.0 (sym (ap (λ (h : Holding). h.waiting) same) ∙ done.1))
       (λ left. none_left until z.conn z.worker done.1 (still_left left))
       others))
       held
@@ -345,6 +357,7 @@ module _ (until : Bool) (a m n z : Scene) (before pulled last : Bool) (one : Doe
     full = full_of_left state is;
     only = left_of_full state is;
     held = ⊎_elim inr (λ left. inl (full_of_left state is left)) held_behind;
+    few = omega (arith, all.fewer);
     in_time = all.in_time;
     within = all.within;
     left = ⊎_elim inl (λ full. inr (omega (arith, full, waits_so_far))) left;
@@ -358,6 +371,7 @@ turns a z state round =
         takes = round.takes;
         state_is = round.state_is;
         held = ⊎_elim (λ (full : state ≡ Full). absurd (unfull full)) (λ held. held) round.held;
+        few = round.few;
         within = round.within;
         left = round.left;
       },
@@ -376,6 +390,7 @@ turns_until a z state round = record {
   state_is = round.state_is;
   full = λ awaits. round.full (refl, awaits);
   held = round.held;
+  few = round.few;
   in_time = round.in_time refl;
   within = round.within;
   left = round.left;

@@ -174,6 +174,12 @@ unfolding takes_trans taken_trans
 amount_trans a b c one two =
     omega (arith, length-append one.taken.came two.taken.came, length-append one.taken.requests two.taken.requests, length-append one.taken.sent two.taken.sent)
 
+-- as many fewer may be taken, through two parts
+fewer_trans : (a b c : Scene) (one : Takes a b) (two : Takes b c) (most left later : ℕ) → length one.taken.requests + left ≡ most → length two.taken.requests + later ≡ left →
+    length (takes_trans a b c one two).taken.requests + later ≡ most
+unfolding takes_trans taken_trans
+fewer_trans a b c one two most left later first second = omega (arith, length-append one.taken.requests two.taken.requests, first, second)
+
 -- no request was logged at a worker that was done, through two parts
 pub in_time_trans : (a b c : Scene) (one : Takes a b) (two : Takes b c) → LogsInTime one → LogsInTime two → LogsInTime (takes_trans a b c one two)
 unfolding takes_trans taken_trans
@@ -242,31 +248,34 @@ did_or true y m n k sum p q = omega (arith, sum, p)
 did_or false true m n k sum p q = omega (arith, sum, q)
 did_or false false m n k sum p q = omega (arith, sum, p, q)
 
-pub does_trans : (until : Bool) (a b c : Scene) (x y : Bool) → Does until a b x → Does until b c y → Does until a c (x || y)
-does_trans until a b c x y one two = record {
+pub does_trans : {most left later : ℕ} → (until : Bool) (a b c : Scene) (x y : Bool) → Does until most a b x left → Does until left b c y later → Does until most a c (x || y) later
+does_trans {most} {left} {later} until a b c x y one two = record {
+  fewer = fewer_trans a b c one.takes two.takes most left later one.fewer two.fewer;
   in_time = λ is. in_time_trans a b c one.takes two.takes (one.in_time is) (two.in_time is);
   within = within_trans a b c one.takes two.takes one.within two.within;
   takes = takes_trans a b c one.takes two.takes;
   did_is = did_or x y (amount one.takes) (amount two.takes) (amount (takes_trans a b c one.takes two.takes)) (amount_trans a b c one.takes two.takes) one.did_is two.did_is;
 }
 
-pub does_nothing : (until : Bool) (a : Scene) → Does until a a false
+pub does_nothing : {most : ℕ} → (until : Bool) (a : Scene) → Does until most a a false most
 unfolding takes_self taken_still taken_none
-does_nothing until a = record { takes = takes_self a; did_is = refl; in_time = λ is. inl refl; within = inl refl }
+does_nothing until a = record { takes = takes_self a; did_is = refl; in_time = λ is. inl refl; within = inl refl; fewer = omega arith }
 
 -- a part of which it is known whether it did something
 or_true : (x : Bool) → (x || true) ≡ true
 or_true true = refl
 or_true false = refl
 
-pub did_then : (until : Bool) (a b c : Scene) (x y : Bool) → y ≡ true → Does until a b x → Does until b c y → Does until a c true
-did_then until a b c x y is one two = subst (Does until a c) (ap (λ did. x || did) is ∙ or_true x) (does_trans until a b c x y one two)
+pub did_then : {most left later : ℕ} → (until : Bool) (a b c : Scene) (x y : Bool) → y ≡ true → Does until most a b x left → Does until left b c y later → Does until most a c true later
+did_then {most} {left} {later} until a b c x y is one two =
+    subst (λ (did : Bool). Does until most a c did later) (ap (λ did. x || did) is ∙ or_true x) (does_trans until a b c x y one two)
 
-pub did_not : (until : Bool) (a b c : Scene) (x y : Bool) → y ≡ false → Does until a b x → Does until b c y → Does until a c x
-did_not until a b c x y is one two = subst (Does until a c) (ap (λ did. x || did) is ∙ or_none x) (does_trans until a b c x y one two)
+pub did_not : {most left later : ℕ} → (until : Bool) (a b c : Scene) (x y : Bool) → y ≡ false → Does until most a b x left → Does until left b c y later → Does until most a c x later
+did_not {most} {left} {later} until a b c x y is one two =
+    subst (λ (did : Bool). Does until most a c did later) (ap (λ did. x || did) is ∙ or_none x) (does_trans until a b c x y one two)
 
 -- what the second part sent is sent in all
-pub sent_last : (until : Bool) (a b c : Scene) (x y : Bool) (one : Does until a b x) (two : Does until b c y) →
+pub sent_last : {most left later : ℕ} → (until : Bool) (a b c : Scene) (x y : Bool) (one : Does until most a b x left) (two : Does until left b c y later) →
     length two.takes.taken.sent ≤ length (does_trans until a b c x y one two).takes.taken.sent
 unfolding does_trans takes_trans taken_trans
 sent_last until a b c x y one two = omega (arith, length-append one.takes.taken.sent two.takes.taken.sent)
@@ -293,17 +302,18 @@ module _ (old new : Conn) (worker : Worker) (input : Inflow) (before after : Out
     shut = shut;
   }
 
-  pub does_pushed : (until : Bool) → Does until (scene old worker (both input before)) (scene new worker (both input after)) (nat_lt 0 count)
+  pub does_pushed : {left : ℕ} → (until : Bool) → Does until left (scene old worker (both input before)) (scene new worker (both input after)) (nat_lt 0 count) left
   unfolding takes_pushed taken_none
   does_pushed until =
       let taken = length-take-le count (queue_of old) few in
-      record { takes = takes_pushed; did_is = did_some count (amount takes_pushed) (omega (arith, taken)); in_time = λ is. inl refl; within = inl refl }
+      record { takes = takes_pushed; did_is = did_some count (amount takes_pushed) (omega (arith, taken)); in_time = λ is. inl refl; within = inl refl; fewer = omega arith }
 
 -- the reader looks for a request
-pub does_looked : (until : Bool) (old new : Conn) (worker : Worker) (streams : Streams) → IsRead (holding_of old) [] [] (holding_of new) → LooksForNext old new →
-    Does until (scene old worker streams) (scene new worker streams) false
+pub does_looked : {most : ℕ} → (until : Bool) (old new : Conn) (worker : Worker) (streams : Streams) → IsRead (holding_of old) [] [] (holding_of new) → LooksForNext old new →
+    Does until most (scene old worker streams) (scene new worker streams) false most
 unfolding taken_still taken_none
 does_looked until old new worker streams read looks = record {
+  fewer = omega arith;
   in_time = λ is. inl refl;
   within = inl refl;
   takes = record {
@@ -365,10 +375,11 @@ module _ (old new : Conn) (worker later : Worker) (streams : Streams) (request :
     record { first = takes_self (scene old worker streams); within = few; rest = takes_responded; one = refl; all = refl },
   )
 
-  pub does_responded : (until : Bool) → (until ≡ true → is_logged (demand_of old.role request) ≡ true → ¬ (IsClosing worker)) → length (queue_of old) ≤ QUEUE_BYTES →
-      Does until (scene old worker streams) (scene new later streams) true
+  pub does_responded : {most left : ℕ} → (until : Bool) → (until ≡ true → is_logged (demand_of old.role request) ≡ true → ¬ (IsClosing worker)) → length (queue_of old) ≤ QUEUE_BYTES →
+      left + 1 ≡ most → Does until most (scene old worker streams) (scene new later streams) true left
   unfolding takes_responded
-  does_responded until room few = record {
+  does_responded until room few one_less = record {
+    fewer = omega (arith, one_less);
     within = responded_within few;
     takes = takes_responded;
     did_is = omega arith;
@@ -391,10 +402,10 @@ module _ (old new : Conn) (worker : Worker) (before after : Inflow) (output : Ou
     shut = shut;
   }
 
-  pub does_fed : (until : Bool) → 0 < length piece → Does until (scene old worker (both before output)) (scene new worker (both after output)) true
+  pub does_fed : {left : ℕ} → (until : Bool) → 0 < length piece → Does until left (scene old worker (both before output)) (scene new worker (both after output)) true left
   unfolding takes_fed taken_none
-  does_fed until some = record { takes = takes_fed; did_is = omega (arith, some); in_time = λ is. inl refl; within = inl refl }
+  does_fed until some = record { takes = takes_fed; did_is = omega (arith, some); in_time = λ is. inl refl; within = inl refl; fewer = omega arith }
 
-  pub does_waited : (until : Bool) → piece ≡ [] → Does until (scene old worker (both before output)) (scene new worker (both after output)) false
+  pub does_waited : {left : ℕ} → (until : Bool) → piece ≡ [] → Does until left (scene old worker (both before output)) (scene new worker (both after output)) false left
   unfolding takes_fed taken_none
-  does_waited until none = record { takes = takes_fed; did_is = omega (arith, ap length none); in_time = λ is. inl refl; within = inl refl }
+  does_waited until none = record { takes = takes_fed; did_is = omega (arith, ap length none); in_time = λ is. inl refl; within = inl refl; fewer = omega arith }

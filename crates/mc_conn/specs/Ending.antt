@@ -13,7 +13,7 @@ use Rattle.mc_conn.specs.declared.conn.Conn.{Conn}
 use Rattle.mc_conn.specs.declared.conn.Role.{Role}
 use Rattle.mc_conn.specs.declared.conn.State.{State}
 use Rattle.mc_conn.specs.declared.conn.State.TheVariants.{Closed, Idle, Busy, Full}
-use Rattle.mc_conn.specs.declared.conn.TheConstants.{PULL_BYTES, QUEUE_BYTES}
+use Rattle.mc_conn.specs.declared.conn.TheConstants.{PULL_BYTES, QUEUE_BYTES, TURN_REQUESTS}
 use Rattle.mc_conn.specs.Held.{HoldsNone, HoldsOn}
 use Rattle.mc_conn.specs.ConnFault.{ConnFault, CountsFailures, IsTold, fault_of}
 use Rattle.mc_conn.specs.Onward.{own_sighting}
@@ -53,13 +53,22 @@ IsState {before} {after} takes Idle =
 IsState {before} {after} takes Busy = ¬ (IsDone after.conn) × (0 < amount takes)
 IsState {before} {after} takes Full = AwaitsLog after.conn after.worker
 
--- a whole request is still held only if more was sent and queued than may be queued when a request
--- is taken
+-- a whole request is still held only if as many were taken as a turn may take, or more was sent and
+-- queued than may be queued when a request is taken
 abbrev pub HoldsOnlyBehind : {before after : Scene} → Takes before after → Type 0
 HoldsOnlyBehind {before} {after} takes =
     HoldsNone (holding_of after.conn)
     ⊎ (after.conn.waiting ≢ None)
-    × (QUEUE_BYTES < length takes.taken.sent + length (queue_of after.conn))
+    × ((length takes.taken.requests ≡ TURN_REQUESTS)
+    ⊎ (QUEUE_BYTES < length takes.taken.sent + length (queue_of after.conn)))
+
+-- no more requests got a reply than a turn may take
+abbrev pub AnswersFew : Conn → Conn → Type 0
+AnswersFew before after = length after.past ≤ length before.past + TURN_REQUESTS
+
+-- no more requests were taken than a turn may take
+abbrev pub TakesFewRequests : {before after : Scene} → Takes before after → Type 0
+TakesFewRequests {before} {after} takes = length takes.taken.requests ≤ TURN_REQUESTS
 
 -- What was done before the last pull, that pull, and what was sent after it; the worker only went
 -- on from there. Before it all requests that had come whole were taken, and no more was queued than
@@ -122,6 +131,7 @@ pub record Turns (before after : Scene) (state : State) : Type 0 where
   pub takes : Takes before after
   pub state_is : IsState takes state
   pub held : HoldsOnlyBehind takes
+  pub few : TakesFewRequests takes
   pub within : TakesWithin takes
   pub left : (queue_of after.conn ≡ [])
       ⊎ (waits before.streams.output.events < waits after.streams.output.events)
@@ -148,6 +158,7 @@ pub record TurnsUntil (before after : Scene) (state : State) : Type 0 where
   pub state_is : IsState takes state
   pub full : AwaitsLog after.conn after.worker → state ≡ Full
   pub held : (state ≡ Full) ⊎ HoldsOnlyBehind takes
+  pub few : TakesFewRequests takes
   pub in_time : LogsInTime takes
   pub within : TakesWithin takes
   pub left : (queue_of after.conn ≡ [])

@@ -1,6 +1,6 @@
 -- The parts of a turn, as the contracts of its functions state them; this project's profile.
 use Rattle.std.specs.Bool.{MatchBool}
-use Rattle.std.specs.Prelude.{◌≡◌, ◌≢◌, ◌⊎◌, ℕ, ◌≤◌, ◌<◌, Bool, true, false, List, [], ◌∷◌, ◌++◌, length, Option, None}
+use Rattle.std.specs.Prelude.{◌≡◌, ◌≢◌, ◌⊎◌, ℕ, ◌+◌, ◌≤◌, ◌<◌, Bool, true, false, List, [], ◌∷◌, ◌++◌, length, Option, None}
 use Rattle.mc_counters.specs.Tallied.{CountedRequest}
 use Rattle.mc_counters.specs.declared.kinds.Asked.{Asked}
 use Rattle.mc_model.specs.declared.command.Command.{Command}
@@ -18,7 +18,7 @@ use Rattle.mc_conn.specs.declared.conn.State.{State}
 use Rattle.mc_conn.specs.declared.conn.State.TheVariants.{Closed, Idle, Busy, Full}
 use Rattle.mc_conn.specs.declared.conn.TheConstants.{QUEUE_BYTES}
 use Rattle.mc_conn.specs.ConnFault.{TellsStarved}
-use Rattle.mc_conn.specs.Ending.{AwaitsLog, Breaks, BreaksInTime, HoldsOnlyBehind, IsState, LogsInTime, Stops, TakesWithin}
+use Rattle.mc_conn.specs.Ending.{AwaitsLog, Breaks, BreaksInTime, HoldsOnlyBehind, IsState, LogsInTime, Stops, TakesFewRequests, TakesWithin}
 use Rattle.mc_conn.specs.Held.{HoldsNone}
 use Rattle.mc_conn.specs.Onward.{own_sighting}
 use Rattle.uc_worker.specs.Going.{Continues}
@@ -26,13 +26,15 @@ use Rattle.mc_conn.specs.Owed.{Demand, IsAnswered, Logs, Mark, Owes, Says, answe
 use Rattle.mc_conn.specs.Tallying.{CountsFor}
 use Rattle.mc_conn.specs.Turn.{Scene, Takes, amount, holding_of, queue_of}
 
--- a part of a turn, and whether it did anything; whether commands are left to the next log is the
--- first argument
-pub record Does (until : Bool) (before after : Scene) (did : Bool) : Type 0 where
+-- a part of a turn that may take so many requests, whether it did anything, and how many may be
+-- taken after it; whether commands are left to the next log is the first argument
+pub record Does (until : Bool) (most : ℕ) (before after : Scene) (did : Bool) (left : ℕ) :
+    Type 0 where
   pub takes : Takes before after
   pub did_is : MatchBool did (0 < amount takes) (amount takes ≡ 0)
   pub in_time : until ≡ true → LogsInTime takes
   pub within : TakesWithin takes
+  pub fewer : length takes.taken.requests + left ≡ most
 
 -- a fault in a part of a turn; whether commands are left to the next log is the first argument
 pub record BreaksFor (until : Bool) (before after : Scene) (fault : Fault) : Type 0 where
@@ -86,11 +88,16 @@ MayAnnounceFor old new (Says said) = announced_of new ≡ announced_of old
 abbrev pub IsLeft : Bool → Conn → Worker → Type 0
 IsLeft until conn worker = (until ≡ true) × AwaitsLog conn worker
 
--- no whole request is held, or one is, and the queue is too long to take it or it is left to the
--- next log
-abbrev pub IsHeldBehind : Bool → Conn → Worker → Type 0
-IsHeldBehind until conn worker =
-    HoldsNone (holding_of conn) ⊎ (conn.waiting ≢ None) × (QUEUE_BYTES < length (queue_of conn))
+-- at most as many requests got a reply as fewer may be taken afterwards
+abbrev pub AnswersWithin : ℕ → ℕ → Conn → Conn → Type 0
+AnswersWithin most left before after = length after.past + left ≤ length before.past + most
+
+-- no whole request is held, or one is, and no more may be taken, the queue is too long to take it
+-- or it is left to the next log; how many may still be taken is the second argument
+abbrev pub IsHeldBehind : Bool → ℕ → Conn → Worker → Type 0
+IsHeldBehind until left conn worker =
+    HoldsNone (holding_of conn)
+    ⊎ (conn.waiting ≢ None) × ((left ≡ 0) ⊎ (QUEUE_BYTES < length (queue_of conn)))
     ⊎ IsLeft until conn worker
 
 -- the faults of taking a request
@@ -149,6 +156,7 @@ pub record GoesRound (until : Bool) (before after : Scene) (state : State) : Typ
   pub full : IsLeft until after.conn after.worker → state ≡ Full
   pub only : state ≡ Full → until ≡ true
   pub held : (state ≡ Full) ⊎ HoldsOnlyBehind takes
+  pub few : TakesFewRequests takes
   pub in_time : until ≡ true → LogsInTime takes
   pub within : TakesWithin takes
   pub left : (queue_of after.conn ≡ [])

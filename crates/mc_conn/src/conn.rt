@@ -17,6 +17,10 @@ use std::alloc::Global;
 /// A request is taken, and bytes are pulled, only while at most this many bytes are queued.
 pub const QUEUE_BYTES: usize = 1_048_576;
 
+/// How many requests a turn takes at most, as memcached bounds them by its option `-R`: more that
+/// have come whole wait for the next turn.
+pub const TURN_REQUESTS: usize = 64;
+
 /// How many bytes a pull asks for at most: as many as the reader takes.
 pub const PULL_BYTES: usize = mc_read::PULL_BYTES;
 
@@ -81,6 +85,15 @@ pub struct Conn {
     pub(crate) is_closed: bool,
     /// The requests that got a reply.
     pub(crate) past: AnsweredRequests,
+}
+
+/// What a turn may still take.
+#[derive(Drop)]
+pub(crate) struct Allowance {
+    /// How many bytes its pull asks for at most.
+    pub bytes: usize,
+    /// How many requests may still be taken.
+    pub requests: usize,
 }
 
 /// How a turn ended.

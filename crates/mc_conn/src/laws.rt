@@ -14,21 +14,24 @@ ghost use Rattle.uc_worker.specs.Going.{Continues};
 ghost use Rattle.uc_worker.specs.Cited.{entries};
 ghost use Rattle.uc_worker.specs.Worker.{HasReplayedAll, IsClosing, history_of, seat_of};
 ghost use Rattle.mc_model.specs.Log.{own};
+ghost use Rattle.mc_conn.specs.declared.conn.Conn.{Conn};
 ghost use Rattle.mc_conn.specs.declared.conn.Role.{Role};
 ghost use Rattle.mc_conn.specs.declared.conn.Role.TheVariants.{Tenant};
-ghost use Rattle.mc_conn.specs.declared.conn.TheConstants.{PULL_BYTES, QUEUE_BYTES};
+ghost use Rattle.mc_conn.specs.declared.conn.TheConstants.{PULL_BYTES, QUEUE_BYTES, TURN_REQUESTS};
 ghost use Rattle.mc_conn.specs.declared.queue.TheConstants.{KEPT_BYTES};
 ghost use Rattle.mc_conn.specs.Alone.{IsAlone, IsAloneOver, commands_of, first_mark, owed, owed_after};
-ghost use Rattle.mc_conn.specs.Ending.{LogsInTime, Pulls, PullsFew, PullsLate, Stops};
+ghost use Rattle.mc_conn.specs.Ending.{AnswersFew, LogsInTime, Pulls, PullsFew, PullsLate, Stops, TakesFewRequests};
 ghost use Rattle.mc_conn.specs.Held.{Holding, IsRead};
 ghost use Rattle.mc_conn.specs.Owed.{IsPlaced, IsTurnedAway, Mark, Owes, mark_of};
 ghost use Rattle.mc_conn.specs.Tallying.{HasCounted, HasCountedTo};
 ghost use Rattle.mc_conn.specs.Turn.{Scene, Takes};
 
 /// The bounds of a connection: how many bytes may be queued while requests are taken and bytes are
-/// pulled, how many bytes a pull asks for, and how many bytes of memory a queue keeps.
+/// pulled, how many requests a turn takes, how many bytes a pull asks for, and how many bytes of
+/// memory a queue keeps.
 pub fn bounds_of_a_connection()
     ensures queue { QUEUE_BYTES ≡ 1048576 }
+    ensures requests { TURN_REQUESTS ≡ 64 }
     ensures pull { PULL_BYTES ≡ 16384 }
     ensures kept { KEPT_BYTES ≡ 65536 }
 {}
@@ -118,6 +121,15 @@ pub fn as_much_comes_as_may_be_pulled()
         length takes.taken.came ≤ max most 1 }
     ensures asks { (before after : Scene) (takes : Takes before after) → Pulls before after →
         length takes.taken.came ≤ PULL_BYTES }
+{}
+
+/// A turn takes few requests: at most 64, and the list of those that got a reply grows by at most
+/// as many in it.
+pub fn few_are_answered_in_a_turn()
+    ensures answers { (before after : Conn) (more : List CountedRequest) →
+        AnswersFew before after → after.past ≡ before.past ++ more → length more ≤ 64 }
+    ensures takes { (before after : Scene) (takes : Takes before after) → TakesFewRequests takes →
+        length takes.taken.requests ≤ 64 }
 {}
 
 /// What was read in one part and in the next was read in both, and what is owed stays owed while

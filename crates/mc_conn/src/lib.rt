@@ -4,7 +4,7 @@
 //! a turn does, and `specs/Ending.antt` how it ends.
 #![tactic(auto)]
 
-pub use conn::{Conn, PULL_BYTES, QUEUE_BYTES, Role, State};
+pub use conn::{Conn, PULL_BYTES, QUEUE_BYTES, Role, State, TURN_REQUESTS};
 pub use mc_stream::{Input, Output, Pull, Push};
 pub use pumping::{pump, pump_until};
 

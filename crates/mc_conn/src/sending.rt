@@ -1,5 +1,5 @@
 //! Pushing what is queued.
-ghost use Rattle.std.specs.Prelude.{◌≡◌, ◌⊎◌, ◌+◌, ◌≤◌, [], Bool, length, take, drop, MatchResult, OnOk};
+ghost use Rattle.std.specs.Prelude.{◌≡◌, ◌⊎◌, ℕ, ◌+◌, ◌≤◌, [], Bool, length, take, drop, MatchResult, OnOk};
 ghost use Rattle.mc_stream.specs.Event.{waits};
 ghost use Rattle.mc_stream.specs.Pushing.{Pushes, StopsAs};
 ghost use Rattle.mc_stream.specs.Stream.{Inflow, both};
@@ -44,9 +44,9 @@ impl Conn {
     /// Returns `Output` if the output fails.
     pub(crate) fn push<O: Output>(&mut self, output: &mut O) -> Result<bool, Fault>
         ensures outcome { MatchResult result
-            (λ did. (until : Bool) (worker : Worker) (input : Inflow) →
-            Does until (scene self.old worker (both input (O.tells output.old)))
-            (scene self.new worker (both input (O.tells output.new))) did)
+            (λ did. (until : Bool) (left : ℕ) (worker : Worker) (input : Inflow) →
+            Does until left (scene self.old worker (both input (O.tells output.old)))
+            (scene self.new worker (both input (O.tells output.new))) did left)
             (λ fault. (until : Bool) (worker : Worker) (input : Inflow) →
             BreaksFor until (scene self.old worker (both input (O.tells output.old)))
             (scene self.new worker (both input (O.tells output.new))) fault) }

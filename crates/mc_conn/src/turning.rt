@@ -3,13 +3,13 @@ ghost use Rattle.std.specs.Prelude.{◌≡◌, ◌≢◌, ◌++◌, List, true, 
 ghost use Rattle.mc_counters.specs.Tallied.{CountedRequest, IsTallyOf};
 ghost use Rattle.mc_stream.specs.Stream.{both};
 ghost use Rattle.mc_conn.specs.ConnFault.{TellsStarved};
-ghost use Rattle.mc_conn.specs.Ending.{Pulls, PullsFew, Stops, StopsUntil, Turns, TurnsUntil};
+ghost use Rattle.mc_conn.specs.Ending.{AnswersFew, Pulls, PullsFew, Stops, StopsUntil, Turns, TurnsUntil};
 ghost use Rattle.mc_conn.specs.Parts.{BreaksFor, GoesRound, StateIs, StopsRound, TellsOf};
 ghost use Rattle.mc_conn.specs.Owed.{FitsLog};
 ghost use Rattle.mc_conn.specs.Tallying.{HasCounted, HasCountedTo, counted_at};
 ghost use Rattle.mc_conn.specs.Turn.{queue_of, scene};
 
-use crate::conn::{Conn, State};
+use crate::conn::{Allowance, Conn, State, TURN_REQUESTS};
 use crate::queue::Queue;
 use mc_counters::Tally;
 use mc_model::{Fault, Reply, WireNo};
@@ -79,11 +79,16 @@ impl Conn {
             (scene self.old worker.old (both (I.tells input.old) (O.tells output.old)))
             (scene self.new worker.new (both (I.tells input.new) (O.tells output.new))) }
         ensures few { PullsFew most (I.tells input.old) (I.tells input.new) }
+        ensures answers { AnswersFew self.old self.new }
         ensures tally { HasCounted self.old.past self.new.past tally.old tally.new }
     {
+        let mut left = Allowance {
+            bytes: most,
+            requests: TURN_REQUESTS,
+        };
         let first = self.push(output)?;
-        let taken = self.take(until_done, worker, gate, tally)?;
-        let pulled = self.pull_and_take(until_done, worker, input, output, gate, most, tally)?;
+        let taken = self.take(until_done, worker, gate, &mut left, tally)?;
+        let pulled = self.pull_and_take(until_done, worker, input, output, gate, &mut left, tally)?;
         let last = self.push(output)?;
         Ok(self.state(until_done, worker, first | taken | pulled | last))
     }
@@ -126,6 +131,7 @@ impl Conn {
             (scene self.old worker.old (both (I.tells input.old) (O.tells output.old)))
             (scene self.new worker.new (both (I.tells input.new) (O.tells output.new))) }
         ensures few { PullsFew most (I.tells input.old) (I.tells input.new) }
+        ensures answers { AnswersFew self.old self.new }
         ensures same { (self.new.role ≡ self.old.role) × (worker.new.log ≡ worker.old.log) }
         ensures tally { MatchResult result
             (λ _. HasCounted self.old.past self.new.past tally.old tally.new)
@@ -150,10 +156,11 @@ impl Conn {
     /// Makes one turn: pushes what is queued, takes whole requests, pulls once, takes requests
     /// again, and pushes their replies.
     ///
-    /// Requests are taken, and bytes pulled, while no more than `QUEUE_BYTES` are queued. Bytes are
-    /// pulled only if no whole request is held then, at most `most` bytes, and no more than
-    /// `PULL_BYTES`. The tally counts the requests that get a reply, quiet or not, and the refusal
-    /// of one that memory ran out for. A full log is a reply, not an error.
+    /// Requests are taken, and bytes pulled, while no more than `QUEUE_BYTES` are queued, and at most
+    /// `TURN_REQUESTS` requests. Bytes are pulled only if no whole request is held then, at most
+    /// `most` bytes, and no more than `PULL_BYTES`. The tally counts the requests that get a reply,
+    /// quiet or not, and the refusal of one that memory ran out for. A full log is a reply, not an
+    /// error.
     ///
     /// Each error closes the connection for good; later turns return `Closed` and do nothing.
     /// Returns `Memory` if memory runs out, which is reported to the client as far as the output
@@ -180,6 +187,8 @@ impl Conn {
             (scene self.old worker.old (both (I.tells input.old) (O.tells output.old)))
             (scene self.new worker.new (both (I.tells input.new) (O.tells output.new))) }
         ensures few { PullsFew most (I.tells input.old) (I.tells input.new) }
+        // At most `TURN_REQUESTS` requests get a reply, with a fault or without.
+        ensures answers { AnswersFew self.old self.new }
         // No command is left to another log.
         ensures takes_all { IfOk result (λ state. state ≢ State.Full) }
         // It is still the same client's, on the same log.
@@ -220,6 +229,7 @@ impl Conn {
             (scene self.old worker.old (both (I.tells input.old) (O.tells output.old)))
             (scene self.new worker.new (both (I.tells input.new) (O.tells output.new))) }
         ensures few { PullsFew most (I.tells input.old) (I.tells input.new) }
+        ensures answers { AnswersFew self.old self.new }
         ensures same { (self.new.role ≡ self.old.role) × (worker.new.log ≡ worker.old.log) }
         ensures tally { MatchResult result
             (λ _. HasCounted self.old.past self.new.past tally.old tally.new)

@@ -1,5 +1,6 @@
 //! Back-pressure from a client that takes nothing at first: replies are queued up to a bound, and
-//! further requests wait. And a client that takes long replies in small pieces.
+//! further requests wait. A client that takes long replies in small pieces. And one that sends more
+//! requests at once than a turn takes.
 use crate::acts::Act;
 use crate::lines::{Client, play, reads};
 use mc_conn::State;
@@ -117,5 +118,40 @@ fn reads_long_replies(alloc: Global) -> Result<bool, Fault> {
 #[test]
 fn long_replies_in_small_pieces(rt: HostRuntime) -> Result<(), Fault> {
     assert!(rt; reads_long_replies(rt.alloc())?);
+    Ok(())
+}
+
+/// Lines of one byte, each of which is refused, and the end of the stream: more requests at once
+/// than a turn takes.
+const SHORT_LINES: &str = "@quit\r\nversion\r\n";
+
+/// Two turns take as many as a turn may, and the third takes the others up to the end; what comes
+/// behind it is never answered.
+const SHORT_TURNS: [Act<'static>; 9] = [
+    Act::Stays(State::Busy, 1),
+    Act::Answered(64),
+    Act::PushedBytes(64 * 7),
+    Act::Stays(State::Busy, 1),
+    Act::Answered(128),
+    Act::PushedBytes(128 * 7),
+    Act::Stays(State::Closed, 1),
+    Act::Answered(130),
+    Act::PushedBytes(130 * 7),
+];
+
+/// Returns whether a turn takes no more of these requests than it may, though all have come.
+fn short_lines_wait(alloc: Global) -> Result<bool, Fault> {
+    let sent = filled(alloc, SHORT_LINES, "\n", 130)?;
+    let client = Client {
+        sent: &sent,
+        pulls: &[],
+        pushes: &[],
+    };
+    play(alloc, 64, client, &SHORT_TURNS)
+}
+
+#[test]
+fn many_requests_at_once_take_several_turns(rt: HostRuntime) -> Result<(), Fault> {
+    assert!(rt; short_lines_wait(rt.alloc())?);
     Ok(())
 }

@@ -1,5 +1,5 @@
 -- What becomes of the connections of an event loop; this project's profile.
-use Rattle.std.specs.Prelude.{◌≡◌, ◌≢◌, ◌⊎◌, ℕ, ◌+◌, ◌-◌, ◌^◌, ◌≤◌, Bool, true, false, List, [], ◌∷◌, length, min, option_and_then, Option, Some, None}
+use Rattle.std.specs.Prelude.{◌≡◌, ◌≢◌, ◌⊎◌, ℕ, ◌+◌, ◌-◌, ◌*◌, ◌^◌, ◌≤◌, Bool, true, false, List, [], ◌∷◌, length, min, option_and_then, Option, Some, None}
 use Rattle.mio.specs.declared.net.stream.TcpStream.{TcpStream}
 use Rattle.slab.specs.Slab.{Updates, get}
 use Rattle.mc_counters.specs.Tallied.{capped}
@@ -8,6 +8,7 @@ use Rattle.mc_conn.specs.declared.conn.Conn.{Conn}
 use Rattle.mc_conn.specs.declared.conn.Role.{Role}
 use Rattle.mc_conn.specs.declared.conn.Role.TheVariants.{Admin, Tenant}
 use Rattle.mc_conn.specs.declared.conn.State.{State}
+use Rattle.mc_conn.specs.declared.conn.TheConstants.{TURN_REQUESTS}
 use Rattle.mc_conn.specs.declared.conn.State.TheVariants.{Closed, Idle, Busy, Full}
 use Rattle.mc_conn.specs.Ending.{IsDone, PullsOnce, Stops, Turns, TurnsUntil}
 use Rattle.mc_conn.specs.Held.{nothing_held}
@@ -120,8 +121,12 @@ Stands until before after Full = (until ≡ true) × Stays until before after Fu
 abbrev pub HasAtMost : ℕ → List Event → List Event → Type 0
 HasAtMost most before after = length after ≤ most + length before
 
+-- at most this many more requests got a reply
+abbrev pub AnswersAtMost : ℕ → Conn → Conn → Type 0
+AnswersAtMost most before after = length after.past ≤ most + length before.past
+
 -- The same connection later on: the worker served it, from what its tapes had to what they have,
--- with few pulls, and it is in the state that the turns returned.
+-- with few pulls and few requests that got a reply, and it is in the state that the turns returned.
 pub record IsServedLater (until : Bool) (before after : Worker) (old new : Connection)
     (state : State) : Type 0 where
   pub stream : new.stream ≡ old.stream
@@ -129,6 +134,7 @@ pub record IsServedLater (until : Bool) (before after : Worker) (old new : Conne
   pub served : TakesOrStops (scene_of old before) (scene_of new after)
   pub stands : Stands until (scene_of old before) (scene_of new after) state
   pub few : HasAtMost TURNS old.received.events new.received.events
+  pub answers : AnswersAtMost (TURNS * TURN_REQUESTS) old.conn new.conn
 
 -- The connection was served, and is counted: its requests that got a reply, and the refusal if
 -- memory ran out.

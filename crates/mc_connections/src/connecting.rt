@@ -1,11 +1,12 @@
 //! How a worker admits connections and serves them.
-ghost use Rattle.std.specs.Prelude.{◌≡◌, ◌⊎◌, ◌<◌, ◌≤◌, ℕ, true, false, length, IfOk, MatchResult, Ok, Some};
+ghost use Rattle.std.specs.Prelude.{◌≡◌, ◌⊎◌, ◌*◌, ◌<◌, ◌≤◌, ℕ, true, false, length, IfOk, MatchResult, Ok, Some};
 ghost use Rattle.fair_places.specs.Places.{held_by};
-ghost use Rattle.mc_conn.specs.Ending.{PullsOnce, Stops};
+ghost use Rattle.mc_conn.specs.Ending.{AnswersFew, PullsOnce, Stops};
 ghost use Rattle.mc_conn.specs.Owed.{FitsLog};
 ghost use Rattle.mc_conn.specs.Tallying.{HasCounted, HasCountedTo};
 ghost use Rattle.mc_conn.specs.Turn.{scene};
-ghost use Rattle.mc_connections.specs.Serving.{HasAtMost, HasComeTo, IsServedLater, IsTallied, SpendsAt, Stands, TakesOrStops, TurnsOnce, answered_between, moved_between, scene_of, tenant_at};
+ghost use Rattle.mc_conn.specs.declared.conn.TheConstants.{TURN_REQUESTS};
+ghost use Rattle.mc_connections.specs.Serving.{AnswersAtMost, HasAtMost, HasComeTo, IsServedLater, IsTallied, SpendsAt, Stands, TakesOrStops, TurnsOnce, answered_between, moved_between, scene_of, tenant_at};
 ghost use Rattle.mc_connections.specs.Tallying.{TalliesAt};
 ghost use Rattle.mc_connections.specs.Working.{ServesAt, standing};
 ghost use Rattle.mc_connections.specs.declared.pace.TheConstants.{SHARED};
@@ -30,7 +31,7 @@ use std::mem;
 use uc_worker::{Gate, Worker};
 
 /// How many turns a connection gets at most each time that it is served, so that the others get
-/// theirs soon: a turn takes at most `PULL_BYTES`.
+/// theirs soon: a turn takes in at most `PULL_BYTES`, and at most `TURN_REQUESTS` requests.
 const TURNS: u32 = 2;
 
 /// What serving a connection came to.
@@ -66,6 +67,7 @@ fn turn_once<I: Input, O: Output, G: Gate>(
         (Stops (scene conn.old worker.old (both (I.tells input.old) (O.tells output.old)))
         (scene conn.new worker.new (both (I.tells input.new) (O.tells output.new)))) }
     ensures pulls { PullsOnce (I.tells input.old) (I.tells input.new) }
+    ensures answers { AnswersFew conn.old conn.new }
     ensures tally { MatchResult result
         (λ _. HasCounted conn.old.past conn.new.past tally.old tally.new)
         (HasCountedTo conn.old.past conn.new.past tally.old tally.new) }
@@ -104,6 +106,7 @@ fn turns<I: Input, O: Output + Spends, G: Gate>(
         (scene conn.old worker.old (both (I.tells input.old) (O.tells output.old)))
         (scene conn.new worker.new (both (I.tells input.new) (O.tells output.new))) result }
     ensures few { HasAtMost TURNS (I.tells input.old).events (I.tells input.new).events }
+    ensures answers { AnswersAtMost (TURNS * TURN_REQUESTS) conn.old conn.new }
     ensures role { conn.new.role ≡ conn.old.role }
     ensures tally { IsTallied
         (scene conn.old worker.old (both (I.tells input.old) (O.tells output.old)))

@@ -1,12 +1,13 @@
 //! What the definitions say of connections, log after log, and the numbers of this profile. A law
 //! is the contract of a function with an empty body, or with calls of the laws from which it
 //! follows.
-ghost use Rattle.std.specs.Prelude.{◌≡◌, ◌≢◌, ◌↔◌, ◌⊎◌, ◌+◌, ◌*◌, ◌^◌, ◌<◌, [], ◌∷◌, ◌++◌, All, Bool, None, Option, Some, false, true, ℕ, List, length, slice_get};
+ghost use Rattle.std.specs.Prelude.{◌≡◌, ◌≢◌, ◌↔◌, ◌⊎◌, ◌+◌, ◌*◌, ◌^◌, ◌<◌, ◌≤◌, [], ◌∷◌, ◌++◌, All, Bool, None, Option, Some, false, true, ℕ, List, length, slice_get};
 ghost use Rattle.fair_places.specs.Places.{MayTake, held_by, with_held};
 ghost use Rattle.fair_queue.specs.Turns.{IsFair, IsPushed};
 ghost use Rattle.mc_conn.specs.Owed.{Mark, Owes, demand_of, is_logged};
 ghost use Rattle.mc_conn.specs.declared.conn.Role.{Role};
 ghost use Rattle.mc_conn.specs.declared.conn.Role.TheVariants.{Admin, Tenant};
+ghost use Rattle.mc_conn.specs.declared.conn.State.{State};
 ghost use Rattle.mc_conn.specs.declared.conn.State.TheVariants.{Busy, Full};
 ghost use Rattle.mc_counters.specs.Tallied.{CountedRequest};
 ghost use Rattle.mc_connections.specs.Asking.{HaveBeenAsked};
@@ -17,7 +18,7 @@ ghost use Rattle.mc_connections.specs.InTurn.{HaveServedInTurn, InTurn};
 ghost use Rattle.mc_connections.specs.Life.{OwesInLogs, OwesInParts, WasAnswered, came_of, sent_of};
 ghost use Rattle.mc_connections.specs.Round.{HaveCome, IsOfConnection, MakesRound, Queued, ServesNext, TellsEnd};
 ghost use Rattle.mc_connections.specs.Seen.{AreAnsweredFrom, IsAnsweredAmong, IsThere, SeesThenAsks, SplitsAtLast, WasSent, announced_number, history_place};
-ghost use Rattle.mc_connections.specs.Serving.{HasComeTo, answered_between, moved_between, tenant_of};
+ghost use Rattle.mc_connections.specs.Serving.{HasComeTo, IsServedLater, answered_between, moved_between, tenant_of};
 ghost use Rattle.mc_connections.specs.Sharing.{OnlyTheTurnGoesOn, OthersTakeOneTurnEach, RoundsAreServes};
 ghost use Rattle.mc_connections.specs.Tallying.{tally_place};
 ghost use Rattle.mc_connections.specs.Waiting.{LetsWait, WaitsInLine, cost_of, flow_of, short_at};
@@ -128,6 +129,13 @@ pub fn what_a_serve_costs()
         came_of new ≡ came_of old ++ came → sent_of new ≡ sent_of old ++ went →
         length (came_of new) + length (sent_of new) < 2 ^ 64 →
         moved_between old new ≡ length came + length went }
+{}
+
+/// Each time that a connection is served at most 128 of its requests get a reply, whatever its
+/// client sends: so these cost 131,072 at most.
+pub fn few_are_answered_in_a_serve()
+    ensures { (until : Bool) (before after : Worker) (old new : Connection) (state : State) →
+        IsServedLater until before after old new state → answered_between old new ≤ 128 }
 {}
 
 /// While a connection waits in a flow and none of that flow is served, the serves of each other

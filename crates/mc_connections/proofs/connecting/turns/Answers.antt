@@ -8,7 +8,7 @@ use Rattle.mc_connections.proofs.Tallied.{tallied, tallied_to}
 use Rattle.mc_connections.proofs.connecting.turns.Goals as goal
 
 pub loop-init : goal.loop-init
-loop-init g c = record { going = c.turns_add_up.ensures.none _; stands = inl refl; few = omega arith; role = refl; tally = c.counts_add_up.ensures.none _ _ }
+loop-init g c = record { going = c.turns_add_up.ensures.none _; stands = inl refl; few = omega arith; answers = omega arith; role = refl; tally = c.counts_add_up.ensures.none _ _ }
 
 -- if it was closed, nothing was done
 pub returns-in-Ok : goal.returns-in-Ok
@@ -24,6 +24,7 @@ returns-in-Ok g c =
       served = inl (c.turns_add_up.ensures.through _ _ _ c.loop.invariant.going takes);
       stands = stands_later c.args.until_done c.turns_add_up.ensures.through _ _ _ c.in-Ok.state c.loop.invariant.going (inl takes) stands;
       few = omega (arith, c.loop.invariant.few, c.loop-test.true, once_few _ _ c.turn_once.ensures.pulls);
+      answers = omega (arith, c.loop.invariant.answers, c.loop-test.true, c.turn_once.ensures.answers);
       role = c.turn_once.ensures.role ∙ c.loop.invariant.role;
       tally = tallied _ _ _ _ _ _ c.loop.invariant.going c.loop.invariant.tally c.turns_add_up.ensures.through c.counts_add_up.ensures.through takes c.in-Ok.ensures.tally;
     }
@@ -48,6 +49,7 @@ returns-then-answered-last g c =
       served = inl (c.turns_add_up.ensures.through _ _ _ c.loop.invariant.going takes);
       stands = stands_later c.args.until_done c.turns_add_up.ensures.through _ _ _ Busy c.loop.invariant.going (inl takes) (subst (Stands c.args.until_done before after) c.in-Ok-Busy.field-0-is stands);
       few = omega (arith, c.loop.invariant.few, c.loop-test.true, once_few _ _ c.turn_once.ensures.pulls);
+      answers = omega (arith, c.loop.invariant.answers, c.loop-test.true, c.turn_once.ensures.answers);
       role = c.turn_once.ensures.role ∙ c.loop.invariant.role;
       tally = tallied _ _ _ _ _ _ c.loop.invariant.going c.loop.invariant.tally c.turns_add_up.ensures.through c.counts_add_up.ensures.through takes c.in-Ok-Busy.ensures.tally;
     }
@@ -67,6 +69,7 @@ loop-preserved g c =
       going = c.turns_add_up.ensures.through _ _ _ c.loop.invariant.going takes;
       stands = inr (stands_later c.args.until_done c.turns_add_up.ensures.through _ _ _ Busy c.loop.invariant.going (inl takes) (subst (Stands c.args.until_done before after) c.in-Ok-Busy.field-0-is stands));
       few = omega (arith, c.loop.invariant.few, once_few _ _ c.turn_once.ensures.pulls);
+      answers = omega (arith, c.loop.invariant.answers, c.turn_once.ensures.answers);
       role = c.turn_once.ensures.role ∙ c.loop.invariant.role;
       tally = c.counts_add_up.ensures.through _ _ _ _ _ _ c.loop.invariant.tally c.in-Ok-Busy.ensures.tally;
     }

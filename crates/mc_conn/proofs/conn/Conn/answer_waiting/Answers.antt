@@ -1,11 +1,11 @@
-use Rattle.std.proofs.Common.{◌≡◌, ◌||◌, Some, refl, ap}
+use Rattle.std.proofs.Common.{◌≡◌, ◌||◌, Some, refl, ap, arith}
 use Rattle.std.proofs.lemmas.Result.{err_from_is_err_and}
 use Rattle.mc_conn.proofs.Breakings.{fails_taking}
 use Rattle.mc_read.specs.Administering.{lines_spoken}
 use Rattle.mc_conn.proofs.Awaiting.{not_left}
 use Rattle.mc_conn.proofs.Readings.{fewer_taken, read_answered, read_same}
 use Rattle.mc_conn.proofs.Takings.{does_looked, does_responded}
-use Rattle.mc_conn.proofs.Countings.{tallies_self}
+use Rattle.mc_conn.proofs.Countings.{answers_one, tallies_self}
 use Rattle.mc_conn.proofs.conn.Conn.answer_waiting.Goals as goal
 
 pub returns-in_ok-respond-in-Some-clause-outcome : goal.returns-in_ok-respond-in-Some-clause-outcome
@@ -15,7 +15,7 @@ returns-in_ok-respond-in-Some-clause-outcome g c until streams room few =
     let old : c.args.self.now.waiting ≡ Some c.in-Some.request = cc in
     does_responded c.args.self.now _ _ _ streams c.in-Some.request (read_answered (lines_spoken c.args.self.now.reader.speaker) c.args.self.now.waiting c.take.new.self c.args.self.now.reader.held c.in-Some.request old c.take.ensures.after) refl refl refl
     (ap (λ ends. c.args.self.now.is_over || ends) c.ends_stream-ends.ensures) c.respond.ensures.onward c.in_ok-respond-in-Some.ensures.outcome c.in_ok-respond-in-Some.ensures.counts until
-    (not_left until c.args.self.now c.args.worker.now c.in-Some.request old room) few
+    (not_left until c.args.self.now c.args.worker.now c.in-Some.request old room) few (omega (arith, c.requires.some))
 
 pub returns-in_ok-respond-in-Some-clause-fewer : goal.returns-in_ok-respond-in-Some-clause-fewer
 returns-in_ok-respond-in-Some-clause-fewer g c =
@@ -46,3 +46,7 @@ returns-in-None-clause-outcome g c until streams room few =
 
 pub returns-in-None-clause-tally : goal.returns-in-None-clause-tally
 returns-in-None-clause-tally g c = tallies_self _ _
+
+pub returns-in_ok-respond-in-Some-clause-answers : goal.returns-in_ok-respond-in-Some-clause-answers
+returns-in_ok-respond-in-Some-clause-answers g c =
+    answers_one c.args.self.now.role c.in-Some.request _ _ _ _ _ _ c.in_ok-respond-in-Some.ensures.counts (omega (arith, c.requires.some))

@@ -19,7 +19,7 @@ returns-in_err-pull-clause-outcome g c =
     fails_pulling until OutOfMemory c.args.self.now _ worker before before output [] refl refl refl (sym (append-nil (moved before.events))) (Consumes-nil before.left) (refl, refl))
 
 pub returns-in-Bytes-clause-outcome : goal.returns-in-Bytes-clause-outcome
-returns-in-Bytes-clause-outcome g c until worker output =
+returns-in-Bytes-clause-outcome g c until left worker output =
     let pulls = subst (λ pull. IsFedByPull (g.I.Input.tells c.args.input.now) (g.I.Input.tells c.pull.new.input) c.clamp.result c.args.self.now.reader c.pull.new.self pull) c.in-Bytes.is c.in_ok-pull.ensures.pulls in
     let said = pulls.is in
     let piece = take c.in-Bytes.field-0 pulls.memory in
@@ -33,7 +33,7 @@ returns-in-Bytes-clause-outcome g c until worker output =
     (let taken = length-take-le c.in-Bytes.field-0 pulls.memory said.count.1 in let some = said.count.0 in omega arith)
 
 pub returns-in-Empty-clause-outcome : goal.returns-in-Empty-clause-outcome
-returns-in-Empty-clause-outcome g c until worker output =
+returns-in-Empty-clause-outcome g c until left worker output =
     let pulls = subst (λ pull. IsFedByPull (g.I.Input.tells c.args.input.now) (g.I.Input.tells c.pull.new.input) c.clamp.result c.args.self.now.reader c.pull.new.self pull) c.in-Empty.is c.in_ok-pull.ensures.pulls in
     let said = pulls.is in
     let waiting = c.args.self.now.waiting in
@@ -46,7 +46,7 @@ returns-in-Empty-clause-outcome g c until worker output =
     (remembers_open c.args.self.now.has_ended _ _ c.requires.going (ap ends said.event)) refl until refl
 
 pub returns-in-Ended-clause-outcome : goal.returns-in-Ended-clause-outcome
-returns-in-Ended-clause-outcome g c until worker output =
+returns-in-Ended-clause-outcome g c until left worker output =
     let pulls = subst (λ pull. IsFedByPull (g.I.Input.tells c.args.input.now) (g.I.Input.tells c.pull.new.input) c.clamp.result c.args.self.now.reader c.pull.new.self pull) c.in-Ended.is c.in_ok-pull.ensures.pulls in
     let said = pulls.is in
     let waiting = c.args.self.now.waiting in

@@ -4,13 +4,13 @@ use Rattle.mc_conn.proofs.Takings.{does_pushed}
 use Rattle.mc_conn.proofs.conn.Conn.push.Goals as goal
 
 pub returns-in-All-clause-outcome : goal.returns-in-All-clause-outcome
-returns-in-All-clause-outcome g c until worker input =
+returns-in-All-clause-outcome g c until left worker input =
     let pushed = c.push_queue-count.ensures in
     let stop = rw c.in-All.is at pushed.stop in
     does_pushed c.args.self.now _ worker input _ _ c.push_queue-count.result.0 refl refl refl refl refl refl pushed.within pushed.left pushed.pushed (omega (arith, stop.2)) stop.1 until
 
 pub returns-in-Full-clause-outcome : goal.returns-in-Full-clause-outcome
-returns-in-Full-clause-outcome g c until worker input =
+returns-in-Full-clause-outcome g c until left worker input =
     let pushed = c.push_queue-count.ensures in
     let stop = rw c.in-Full.is at pushed.stop in
     does_pushed c.args.self.now _ worker input _ _ c.push_queue-count.result.0 refl refl refl refl refl refl pushed.within pushed.left pushed.pushed (omega (arith, stop.2)) stop.0 until

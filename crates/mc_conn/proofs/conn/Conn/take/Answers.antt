@@ -1,4 +1,4 @@
-use Rattle.std.proofs.Common.{refl, ◌∙◌}
+use Rattle.std.proofs.Common.{arith, refl, ◌∙◌}
 use Rattle.std.proofs.lemmas.Result.{err_from_is_err_and}
 use Rattle.mc_conn.specs.declared.conn.Conn.{Conn}
 use Rattle.mc_conn.specs.Parts.{KeepsStreams}
@@ -21,6 +21,8 @@ pub loop-did-init : goal.loop-did-init
 loop-did-init g c = record {
   does = λ streams. does_nothing _ _;
   keeps = record { role = refl; has_ended = refl; onward = continues_self-value.it _ };
+  answers = omega arith;
+  bytes = refl;
   tally = tallies_self _ _;
 }
 
@@ -36,6 +38,8 @@ pub loop-did-preserved : goal.loop-did-preserved
 loop-did-preserved g c = record {
   does = λ streams. did_then _ _ _ _ _ _ c.if-branch.true (c.loop-did.invariant.does streams) (c.in_ok-take_one.ensures.outcome streams);
   keeps = keeps_through _ _ _ _ _ _ c.loop-did.invariant.keeps c.take_one.ensures.keeps;
+  answers = omega (arith, c.loop-did.invariant.answers, c.take_one.ensures.answers);
+  bytes = c.take_one.ensures.bytes ∙ c.loop-did.invariant.bytes;
   tally = tallies_trans _ _ _ _ _ _ c.loop-did.invariant.tally c.take_one.ensures.tally;
 }
 
@@ -53,3 +57,15 @@ returns-in_err-take_one-clause-tally g c = tallies_trans _ _ _ _ _ _ c.loop-did.
 
 pub returns-clause-tally : goal.returns-clause-tally
 returns-clause-tally g c = tallies_trans _ _ _ _ _ _ c.loop-did.invariant.tally c.take_one.ensures.tally
+
+pub returns-in_err-take_one-clause-answers : goal.returns-in_err-take_one-clause-answers
+returns-in_err-take_one-clause-answers g c = omega (arith, c.loop-did.invariant.answers, c.take_one.ensures.answers)
+
+pub returns-clause-answers : goal.returns-clause-answers
+returns-clause-answers g c = omega (arith, c.loop-did.invariant.answers, c.take_one.ensures.answers)
+
+pub returns-in_err-take_one-clause-bytes : goal.returns-in_err-take_one-clause-bytes
+returns-in_err-take_one-clause-bytes g c = c.take_one.ensures.bytes ∙ c.loop-did.invariant.bytes
+
+pub returns-clause-bytes : goal.returns-clause-bytes
+returns-clause-bytes g c = c.take_one.ensures.bytes ∙ c.loop-did.invariant.bytes

@@ -2,7 +2,7 @@ use Rattle.std.proofs.Common.{◌≡◌, ◌≤◌, ◌∙◌, true, false, leng
 use Rattle.std.proofs.lemmas.Result.{err_from_is_err_and}
 use Rattle.mc_stream.specs.Stream.{Streams}
 use Rattle.mc_conn.specs.Held.{most_held}
-use Rattle.mc_conn.specs.Parts.{IsLeft}
+use Rattle.mc_conn.specs.Parts.{Does, IsLeft}
 use Rattle.mc_conn.specs.Turn.{holding_of, queue_of, scene}
 use Rattle.mc_conn.specs.declared.conn.TheConstants.{QUEUE_BYTES}
 use Rattle.mc_conn.proofs.Breakings.{fails_later, fails_looking}
@@ -21,11 +21,19 @@ pub returns-then-len-gt-QUEUE_BYTES-clause-outcome : goal.returns-then-len-gt-QU
 returns-then-len-gt-QUEUE_BYTES-clause-outcome g c streams =
     does_looked c.args.until_done c.args.self.now c.look.new.self _ streams c.in_ok-look.ensures.read c.look.ensures.looks
 
+pub returns-then-allowed-eq0-clause-outcome : goal.returns-then-allowed-eq0-clause-outcome
+returns-then-allowed-eq0-clause-outcome g c streams =
+    does_looked c.args.until_done c.args.self.now c.look.new.self _ streams c.in_ok-look.ensures.read c.look.ensures.looks
+
+pub returns-then-allowed-eq0-clause-tally : goal.returns-then-allowed-eq0-clause-tally
+returns-then-allowed-eq0-clause-tally g c = tallies_same _ _ _ c.look.ensures.looks.past
+
 pub returns-clause-outcome : goal.returns-clause-outcome
 returns-clause-outcome g c =
     let room : ¬ (IsLeft c.args.until_done c.look.new.self c.args.worker.now) = λ left. let no : true ≡ false = sym (c.is_left.ensures.1 left) ∙ c.if-is_left.false in cc in
     let few : length (queue_of c.look.new.self) ≤ QUEUE_BYTES = omega (arith, c.if-len-gt-QUEUE_BYTES.false, c.len.ensures) in
-    let looked = λ (streams : Streams). does_looked c.args.until_done c.args.self.now c.look.new.self c.args.worker.now streams c.in_ok-look.ensures.read c.look.ensures.looks in
+    let looked : (streams : Streams) → Does c.args.until_done c.args.allowed.now.requests (scene c.args.self.now c.args.worker.now streams) (scene c.look.new.self c.args.worker.now streams) false c.args.allowed.now.requests =
+    λ streams. does_looked c.args.until_done c.args.self.now c.look.new.self c.args.worker.now streams c.in_ok-look.ensures.read c.look.ensures.looks in
     match_map c.answer_waiting.result _ _ _ _ (λ did does streams. does_trans _ _ (scene c.look.new.self _ streams) _ _ did (looked streams) (does c.args.until_done streams room few))
     (λ fault fails streams. fails_later c.args.until_done fault _ (scene c.look.new.self _ streams) _ _ (looked streams) (fails c.args.until_done streams room)) c.answer_waiting.ensures.outcome
 
