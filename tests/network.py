@@ -379,6 +379,17 @@ def check_flood():
         thread.join()
 
 
+def check_short_requests():
+    """More requests at once than a turn takes, behind a line so long that a read takes as much as it can: no event tells of those that wait."""
+    with Server(PROGRAM, ["--workers", "1"], {"a": LARGE}) as server:
+        client = ask(server, "a", b"set n 0 0 1\r\n0\r\n")
+        check("a number before short requests", is_answered(client, b"STORED\r\n"))
+        with server.stopped():
+            client.sendall(b"x" * 2_048 + b"\n" + b"incr n 1\r\n" * 1_600 + b"\n" * 16_384)
+        counts = b"".join(b"%d\r\n" % count for count in range(1, 1_601))
+        check("more requests at once than a turn takes", is_answered(client, b"ERROR\r\n" + counts + b"ERROR\r\n" * 16_384))
+
+
 def check_few_descriptors():
     """Where descriptors are scarce, clients of the first tenant who come again and again leave some to another's, and nobody is forgotten."""
     with Server(PROGRAM, ["--workers", "1"], {"a": LARGE, "b": LARGE}) as server:
@@ -747,6 +758,7 @@ def main():
     check_much_at_once()
     check_busy_worker()
     check_flood()
+    check_short_requests()
     check_few_descriptors()
     check_gone_arrivals()
     check_gone_among_busy()
