@@ -21,7 +21,7 @@
 #include <time.h>
 #include <unistd.h>
 
-enum { MOST = 64, MOST_DATA = 1 << 20, WORDS = 60, MOST_PREFIX = 16, MOST_SECONDS = 3600, PATIENCE = 60000 };
+enum { MOST = 64, MOST_DEPTH = 1024, MOST_DATA = 1 << 20, WORDS = 60, MOST_PREFIX = 16, MOST_SECONDS = 3600, PATIENCE = 60000 };
 
 struct client {
     int socket;
@@ -222,7 +222,7 @@ int main(int count, char **words) {
     int connections = atoi(words[2]), ports[MOST], known = 0;
     struct run run = {.depth = atoi(words[3])};
     for (char *word = strtok(words[1], ","); word && known < MOST; word = strtok(NULL, ",")) ports[known++] = atoi(word);
-    if (run.depth < 1 || run.depth > MOST || connections < 1 || !known || !keys || seconds < 0 || seconds > MOST_SECONDS || size > MOST_DATA || gets > 100 || strlen(prefix) > MOST_PREFIX) return fprintf(stderr, "numbers out of range\n"), 2;
+    if (run.depth < 1 || run.depth > MOST_DEPTH || connections < 1 || !known || !keys || seconds < 0 || seconds > MOST_SECONDS || size > MOST_DATA || gets > 100 || strlen(prefix) > MOST_PREFIX) return fprintf(stderr, "numbers out of range\n"), 2;
     if (keys > 100000) digits = 7;
     memset(data, 'v', size);
     poll = epoll_create1(0);

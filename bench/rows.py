@@ -1,14 +1,14 @@
 #!/usr/bin/env python3
-"""Compares wfmc with memcached row by row, over logs that follow one another: rows.py [RUNS] [--seconds N] [--threads N...] [--rows WORD] [--places N]
-[--log-bytes N] [--preload LIBRARY].
+"""Compares wfmc with memcached row by row, over logs that follow one another: rows.py [RUNS] [--seconds N] [--threads N...] [--rows WORD]
+[--depths N...] [--places N] [--log-bytes N] [--preload LIBRARY].
 
 A row has a number of connections with so many requests at a time each, of which 95 or 50 in 100 are gets and the others sets, data of
 100 bytes to 1 MiB, and keys. A log is closed after 1 GiB (--log-bytes), and has as many places (--places) as that has data for, at most
 1,048,576. wfmc takes its memory by the allocator of the defaults file, with --preload by that of another library, and with --preload none by the C
 library's. For each row the servers are started by turns, anew for each of RUNS (3) runs of N (3) seconds, with as many workers as threads (1, 2 and
 4). Prints for each row and server the median, the least and the greatest: requests a second, the server's processor time a request, and its page
-faults a request. With --rows only rows whose names have WORD are measured. Needs memcached, gcc and that library; the rows of 1,000,000 keys and of
-long data take up to 4 GB of memory.
+faults a request. With --rows only rows whose names have WORD are measured, and with --depths such with 8 connections and that many requests at a
+time, up to 1,024. Needs memcached, gcc and that library; the rows of 1,000,000 keys and of long data take up to 4 GB of memory.
 """
 
 import pathlib
@@ -23,17 +23,16 @@ from harness.servers import LARGE, Memcached, Server, preloading
 from wfmc import build_load
 
 PROGRAM = repository.program("wfmc")
-SHAPES = ((50, 1), (8, 32))  # connections, requests that each sends at once
+SHAPES = [(50, 1), (8, 32)]  # connections, requests that each sends at once
 GETS = (95, 50)  # in 100
 DATA = ((100, 10_000), (100, 1_000_000), (4_096, 10_000), (65_536, 1_000), (1_048_576, 100))  # bytes of an item, keys
 LOG_BYTES = 1 << 30  # as it comes
 MOST_PLACES = 1_048_576
-MOST_A_SECOND = {1: 500_000, 32: 4_000_000}  # requests, more than a server answers at these depths
 NAMES = {100: "100 B", 4_096: "4 KiB", 65_536: "64 KiB", 1_048_576: "1 MiB"}
 
 
-def rows():
-    for connections, depth in SHAPES:
+def rows(shapes):
+    for connections, depth in shapes:
         for gets in GETS:
             for size, keys in DATA:
                 name = f"{connections} x {depth}, {gets} % gets, {NAMES[size]}, {keys:,} keys"
@@ -58,7 +57,9 @@ def faults_of(server):
 def load(program, options, port, shape, seconds):
     """What a run of the load measured."""
     connections, depth = shape
-    words = [program, *options, "-s", str(seconds), port, connections, depth, MOST_A_SECOND[depth] * seconds]
+    # More requests than a server answers.
+    most = (500_000 if depth == 1 else 4_000_000) * seconds
+    words = [program, *options, "-s", str(seconds), port, connections, depth, most]
     return list(figures_of(subprocess.run([str(word) for word in words], capture_output=True, text=True, check=True).stdout))
 
 
@@ -83,6 +84,7 @@ def main():
     parser.add_argument("--seconds", type=int, default=3)
     parser.add_argument("--threads", type=int, nargs="+", default=[1, 2, 4])
     parser.add_argument("--rows", default="")
+    parser.add_argument("--depths", type=int, nargs="+")
     parser.add_argument("--places", type=int)
     parser.add_argument("--log-bytes", type=int, default=LOG_BYTES)
     parser.add_argument("--preload")
@@ -92,7 +94,8 @@ def main():
     with tempfile.TemporaryDirectory() as folder:
         program = build_load(folder)
         print_load("start")
-        for name, options, shape, size in rows():
+        shapes = [(8, depth) for depth in words.depths] if words.depths else SHAPES
+        for name, options, shape, size in rows(shapes):
             if words.rows not in name:
                 continue
             log = words.places or min(words.log_bytes // size, MOST_PLACES), words.log_bytes, words.preload

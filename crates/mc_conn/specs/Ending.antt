@@ -62,9 +62,9 @@ HoldsOnlyBehind {before} {after} takes =
     × ((length takes.taken.requests ≡ TURN_REQUESTS)
     ⊎ (QUEUE_BYTES < length takes.taken.sent + length (queue_of after.conn)))
 
--- no more requests got a reply than a turn may take
-abbrev pub AnswersFew : Conn → Conn → Type 0
-AnswersFew before after = length after.past ≤ length before.past + TURN_REQUESTS
+-- at most this many more requests got a reply, whether a fault came or not
+abbrev pub AnswersAtMost : ℕ → Conn → Conn → Type 0
+AnswersAtMost most before after = length after.past ≤ most + length before.past
 
 -- no more requests were taken than a turn may take
 abbrev pub TakesFewRequests : {before after : Scene} → Takes before after → Type 0

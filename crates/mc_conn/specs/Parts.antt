@@ -26,8 +26,8 @@ use Rattle.mc_conn.specs.Owed.{Demand, IsAnswered, Logs, Mark, Owes, Says, answe
 use Rattle.mc_conn.specs.Tallying.{CountsFor}
 use Rattle.mc_conn.specs.Turn.{Scene, Takes, amount, holding_of, queue_of}
 
--- a part of a turn that may take so many requests, whether it did anything, and how many may be
--- taken after it; whether commands are left to the next log is the first argument
+-- a part of a turn, which may take this many requests at most, whether it did anything, and how many
+-- may be taken after it; whether commands are left to the next log is the first argument
 pub record Does (until : Bool) (most : ℕ) (before after : Scene) (did : Bool) (left : ℕ) :
     Type 0 where
   pub takes : Takes before after

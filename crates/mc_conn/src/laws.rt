@@ -20,7 +20,7 @@ ghost use Rattle.mc_conn.specs.declared.conn.Role.TheVariants.{Tenant};
 ghost use Rattle.mc_conn.specs.declared.conn.TheConstants.{PULL_BYTES, QUEUE_BYTES, TURN_REQUESTS};
 ghost use Rattle.mc_conn.specs.declared.queue.TheConstants.{KEPT_BYTES};
 ghost use Rattle.mc_conn.specs.Alone.{IsAlone, IsAloneOver, commands_of, first_mark, owed, owed_after};
-ghost use Rattle.mc_conn.specs.Ending.{AnswersFew, LogsInTime, Pulls, PullsFew, PullsLate, Stops, TakesFewRequests};
+ghost use Rattle.mc_conn.specs.Ending.{AnswersAtMost, LogsInTime, Pulls, PullsFew, PullsLate, Stops, TakesFewRequests};
 ghost use Rattle.mc_conn.specs.Held.{Holding, IsRead};
 ghost use Rattle.mc_conn.specs.Owed.{IsPlaced, IsTurnedAway, Mark, Owes, mark_of};
 ghost use Rattle.mc_conn.specs.Tallying.{HasCounted, HasCountedTo};
@@ -127,7 +127,8 @@ pub fn as_much_comes_as_may_be_pulled()
 /// as many in it.
 pub fn few_are_answered_in_a_turn()
     ensures answers { (before after : Conn) (more : List CountedRequest) →
-        AnswersFew before after → after.past ≡ before.past ++ more → length more ≤ 64 }
+        AnswersAtMost TURN_REQUESTS before after → after.past ≡ before.past ++ more →
+        length more ≤ 64 }
     ensures takes { (before after : Scene) (takes : Takes before after) → TakesFewRequests takes →
         length takes.taken.requests ≤ 64 }
 {}

@@ -3,11 +3,12 @@ ghost use Rattle.std.specs.Prelude.{◌≡◌, ◌≢◌, ◌++◌, List, true, 
 ghost use Rattle.mc_counters.specs.Tallied.{CountedRequest, IsTallyOf};
 ghost use Rattle.mc_stream.specs.Stream.{both};
 ghost use Rattle.mc_conn.specs.ConnFault.{TellsStarved};
-ghost use Rattle.mc_conn.specs.Ending.{AnswersFew, Pulls, PullsFew, Stops, StopsUntil, Turns, TurnsUntil};
+ghost use Rattle.mc_conn.specs.Ending.{AnswersAtMost, Pulls, PullsFew, Stops, StopsUntil, Turns, TurnsUntil};
 ghost use Rattle.mc_conn.specs.Parts.{BreaksFor, GoesRound, StateIs, StopsRound, TellsOf};
 ghost use Rattle.mc_conn.specs.Owed.{FitsLog};
 ghost use Rattle.mc_conn.specs.Tallying.{HasCounted, HasCountedTo, counted_at};
 ghost use Rattle.mc_conn.specs.Turn.{queue_of, scene};
+ghost use Rattle.mc_conn.specs.declared.conn.TheConstants.{TURN_REQUESTS};
 
 use crate::conn::{Allowance, Conn, State, TURN_REQUESTS};
 use crate::queue::Queue;
@@ -79,7 +80,7 @@ impl Conn {
             (scene self.old worker.old (both (I.tells input.old) (O.tells output.old)))
             (scene self.new worker.new (both (I.tells input.new) (O.tells output.new))) }
         ensures few { PullsFew most (I.tells input.old) (I.tells input.new) }
-        ensures answers { AnswersFew self.old self.new }
+        ensures answers { AnswersAtMost TURN_REQUESTS self.old self.new }
         ensures tally { HasCounted self.old.past self.new.past tally.old tally.new }
     {
         let mut left = Allowance {
@@ -131,7 +132,7 @@ impl Conn {
             (scene self.old worker.old (both (I.tells input.old) (O.tells output.old)))
             (scene self.new worker.new (both (I.tells input.new) (O.tells output.new))) }
         ensures few { PullsFew most (I.tells input.old) (I.tells input.new) }
-        ensures answers { AnswersFew self.old self.new }
+        ensures answers { AnswersAtMost TURN_REQUESTS self.old self.new }
         ensures same { (self.new.role ≡ self.old.role) × (worker.new.log ≡ worker.old.log) }
         ensures tally { MatchResult result
             (λ _. HasCounted self.old.past self.new.past tally.old tally.new)
@@ -188,7 +189,7 @@ impl Conn {
             (scene self.new worker.new (both (I.tells input.new) (O.tells output.new))) }
         ensures few { PullsFew most (I.tells input.old) (I.tells input.new) }
         // At most `TURN_REQUESTS` requests get a reply, with a fault or without.
-        ensures answers { AnswersFew self.old self.new }
+        ensures answers { AnswersAtMost TURN_REQUESTS self.old self.new }
         // No command is left to another log.
         ensures takes_all { IfOk result (λ state. state ≢ State.Full) }
         // It is still the same client's, on the same log.
@@ -229,7 +230,7 @@ impl Conn {
             (scene self.old worker.old (both (I.tells input.old) (O.tells output.old)))
             (scene self.new worker.new (both (I.tells input.new) (O.tells output.new))) }
         ensures few { PullsFew most (I.tells input.old) (I.tells input.new) }
-        ensures answers { AnswersFew self.old self.new }
+        ensures answers { AnswersAtMost TURN_REQUESTS self.old self.new }
         ensures same { (self.new.role ≡ self.old.role) × (worker.new.log ≡ worker.old.log) }
         ensures tally { MatchResult result
             (λ _. HasCounted self.old.past self.new.past tally.old tally.new)

@@ -1,5 +1,5 @@
 -- What a turn leaves of its connection, turns after turns, and whether a connection stays.
-use Rattle.std.proofs.Common.{◌≡◌, ◌≢◌, ◌⊎◌, ℕ, ◌+◌, ◌≤◌, ◌∷◌, length, ap, arith, Bool, true, false, List, Option, Some, None, Result, Ok, Err, IsSome, ⊎_elim, inl, inr, refl, sym, subst, ◌∙◌}
+use Rattle.std.proofs.Common.{◌≡◌, ◌≢◌, ◌⊎◌, ℕ, ◌+◌, ◌≤◌, ◌∷◌, length, length-append, ap, arith, Bool, true, false, List, Option, Some, None, Result, Ok, Err, IsSome, ⊎_elim, inl, inr, refl, sym, subst, ◌∙◌}
 use Rattle.std.proofs.lemmas.Option.{same_Some}
 use Rattle.std.specs.Option.{option_map_or}
 use Rattle.slab.specs.Slab.{Slab, Updates, get, with_value}
@@ -7,11 +7,13 @@ use Rattle.slab.proofs.SlabLemmas.{Updates-with_value}
 use Rattle.mc_conn.specs.declared.conn.Conn.{Conn}
 use Rattle.mc_conn.specs.declared.conn.State.{State}
 use Rattle.mc_conn.specs.declared.conn.State.TheVariants.{Closed, Idle, Busy, Full}
+use Rattle.mc_conn.specs.declared.conn.TheConstants.{PULL_BYTES}
 use Rattle.mc_conn.specs.Ending.{AwaitsLog, IsDone, IsState, PullsOnce, Stops, logs_next}
 use Rattle.mc_conn.specs.Owed.{demand_of, is_logged}
 use Rattle.mc_conn.specs.Turn.{Scene, Takes, scene}
 use Rattle.mc_model.specs.declared.fault.Fault.{Fault}
 use Rattle.mc_model.specs.declared.request.Request.{Request}
+use Rattle.mc_stream.specs.Event.{Event, Moves, Waits, Ends, Fails, last_moved, moved}
 use Rattle.mc_stream.specs.Stream.{Inflow, Streams}
 use Rattle.uc_worker.specs.Going.{Continues}
 use Rattle.uc_worker.specs.declared.worker.Worker.{Worker}
@@ -131,6 +133,21 @@ once_few before after once =
     ⊎_elim
     (λ same. omega (arith, ap (λ (input : Inflow). length input.events) same))
     (λ pull. omega (arith, ap length pull.1))
+    once
+
+-- one event moves what the last one of the list moved
+one_moves : (event : Event) (earlier : List Event) → length (moved (event ∷ earlier)) ≡ length (last_moved (event ∷ earlier)) + length (moved earlier)
+one_moves (Moves bytes) earlier = omega (arith, length-append (moved earlier) bytes)
+one_moves Waits earlier = omega arith
+one_moves Ends earlier = omega arith
+one_moves Fails earlier = omega arith
+
+-- so it takes no more bytes than a pull asks for
+pub once_moves : (before after : Inflow) → PullsOnce before after → length (moved after.events) ≤ PULL_BYTES + length (moved before.events)
+once_moves before after once =
+    ⊎_elim
+    (λ same. omega (arith, ap (λ (input : Inflow). length (moved input.events)) same))
+    (λ pull. omega (arith, pull.2, one_moves pull.0 before.events, ap (λ (events : List Event). length (moved events)) pull.1, ap (λ (events : List Event). length (last_moved events)) pull.1))
     once
 
 -- a connection was served under its key, and stays there or goes

@@ -8,9 +8,9 @@ use Rattle.mc_conn.specs.declared.conn.Conn.{Conn}
 use Rattle.mc_conn.specs.declared.conn.Role.{Role}
 use Rattle.mc_conn.specs.declared.conn.Role.TheVariants.{Admin, Tenant}
 use Rattle.mc_conn.specs.declared.conn.State.{State}
-use Rattle.mc_conn.specs.declared.conn.TheConstants.{TURN_REQUESTS}
+use Rattle.mc_conn.specs.declared.conn.TheConstants.{PULL_BYTES, TURN_REQUESTS}
 use Rattle.mc_conn.specs.declared.conn.State.TheVariants.{Closed, Idle, Busy, Full}
-use Rattle.mc_conn.specs.Ending.{IsDone, PullsOnce, Stops, Turns, TurnsUntil}
+use Rattle.mc_conn.specs.Ending.{AnswersAtMost, IsDone, PullsOnce, Stops, Turns, TurnsUntil}
 use Rattle.mc_conn.specs.Held.{nothing_held}
 use Rattle.mc_conn.specs.Owed.{IsAmong}
 use Rattle.mc_conn.specs.Tallying.{HasCounted, HasCountedTo}
@@ -24,7 +24,7 @@ use Rattle.mc_connections.specs.declared.arrival.Admission.TheVariants.{Admitted
 use Rattle.mc_connections.specs.declared.arrival.Arrival.{Arrival}
 use Rattle.mc_connections.specs.declared.connection.Connection.{Connection}
 use Rattle.mc_connections.specs.declared.connections.Connections.{Connections}
-use Rattle.mc_stream.specs.Event.{Event}
+use Rattle.mc_stream.specs.Event.{Event, moved}
 use Rattle.mc_stream.specs.Stream.{both}
 use Rattle.uc_worker.specs.declared.worker.Worker.{Worker}
 
@@ -121,12 +121,13 @@ Stands until before after Full = (until ≡ true) × Stays until before after Fu
 abbrev pub HasAtMost : ℕ → List Event → List Event → Type 0
 HasAtMost most before after = length after ≤ most + length before
 
--- at most this many more requests got a reply
-abbrev pub AnswersAtMost : ℕ → Conn → Conn → Type 0
-AnswersAtMost most before after = length after.past ≤ most + length before.past
+-- they moved at most this many more bytes
+abbrev pub MovesAtMost : ℕ → List Event → List Event → Type 0
+MovesAtMost most before after = length (moved after) ≤ most + length (moved before)
 
 -- The same connection later on: the worker served it, from what its tapes had to what they have,
--- with few pulls and few requests that got a reply, and it is in the state that the turns returned.
+-- with few pulls, few bytes that came and few requests that got a reply, and it is in the state that
+-- the turns returned.
 pub record IsServedLater (until : Bool) (before after : Worker) (old new : Connection)
     (state : State) : Type 0 where
   pub stream : new.stream ≡ old.stream
@@ -134,6 +135,7 @@ pub record IsServedLater (until : Bool) (before after : Worker) (old new : Conne
   pub served : TakesOrStops (scene_of old before) (scene_of new after)
   pub stands : Stands until (scene_of old before) (scene_of new after) state
   pub few : HasAtMost TURNS old.received.events new.received.events
+  pub reads : MovesAtMost (TURNS * PULL_BYTES) old.received.events new.received.events
   pub answers : AnswersAtMost (TURNS * TURN_REQUESTS) old.conn new.conn
 
 -- The connection was served, and is counted: its requests that got a reply, and the refusal if

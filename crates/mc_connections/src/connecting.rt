@@ -1,12 +1,12 @@
 //! How a worker admits connections and serves them.
 ghost use Rattle.std.specs.Prelude.{◌≡◌, ◌⊎◌, ◌*◌, ◌<◌, ◌≤◌, ℕ, true, false, length, IfOk, MatchResult, Ok, Some};
 ghost use Rattle.fair_places.specs.Places.{held_by};
-ghost use Rattle.mc_conn.specs.Ending.{AnswersFew, PullsOnce, Stops};
+ghost use Rattle.mc_conn.specs.Ending.{AnswersAtMost, PullsOnce, Stops};
 ghost use Rattle.mc_conn.specs.Owed.{FitsLog};
 ghost use Rattle.mc_conn.specs.Tallying.{HasCounted, HasCountedTo};
 ghost use Rattle.mc_conn.specs.Turn.{scene};
-ghost use Rattle.mc_conn.specs.declared.conn.TheConstants.{TURN_REQUESTS};
-ghost use Rattle.mc_connections.specs.Serving.{AnswersAtMost, HasAtMost, HasComeTo, IsServedLater, IsTallied, SpendsAt, Stands, TakesOrStops, TurnsOnce, answered_between, moved_between, scene_of, tenant_at};
+ghost use Rattle.mc_conn.specs.declared.conn.TheConstants.{PULL_BYTES, TURN_REQUESTS};
+ghost use Rattle.mc_connections.specs.Serving.{HasAtMost, HasComeTo, IsServedLater, IsTallied, MovesAtMost, SpendsAt, Stands, TakesOrStops, TurnsOnce, answered_between, moved_between, scene_of, tenant_at};
 ghost use Rattle.mc_connections.specs.Tallying.{TalliesAt};
 ghost use Rattle.mc_connections.specs.Working.{ServesAt, standing};
 ghost use Rattle.mc_connections.specs.declared.pace.TheConstants.{SHARED};
@@ -34,6 +34,17 @@ use uc_worker::{Gate, Worker};
 /// theirs soon: a turn takes in at most `PULL_BYTES`, and at most `TURN_REQUESTS` requests.
 const TURNS: u32 = 2;
 
+/// On which terms turns are made.
+#[derive(Clone, Copy)]
+struct Terms {
+    /// Commands are left to the next log once the worker's log is closing.
+    until_done: bool,
+    /// How many bytes a turn pulls at most.
+    most_read: usize,
+    /// Once as many requests were answered there is no further turn.
+    requests: u64,
+}
+
 /// What serving a connection came to.
 #[derive(Clone, Copy)]
 pub(crate) struct Served {
@@ -45,67 +56,65 @@ pub(crate) struct Served {
     pub bytes: u64,
 }
 
-/// Makes a turn, which pulls at most `most` bytes, and leaves commands to the next log if
-/// `until_done` is set.
+/// Makes a turn on these terms.
 ///
 /// Returns the errors of `turn`.
 fn turn_once<I: Input, O: Output, G: Gate>(
-    until_done: bool,
+    terms: Terms,
     conn: &mut Conn,
     worker: &mut Worker<'_>,
     input: &mut I,
     output: &mut O,
     gate: &mut G,
-    most: usize,
     tally: &mut Tally,
 ) -> Result<State, Fault>
     requires { FitsLog conn.old.role worker.old }
     ensures outcome { conn.old.is_closed ≡ false → MatchResult result
-        (TurnsOnce until_done
+        (TurnsOnce terms.until_done
         (scene conn.old worker.old (both (I.tells input.old) (O.tells output.old)))
         (scene conn.new worker.new (both (I.tells input.new) (O.tells output.new))))
         (Stops (scene conn.old worker.old (both (I.tells input.old) (O.tells output.old)))
         (scene conn.new worker.new (both (I.tells input.new) (O.tells output.new)))) }
     ensures pulls { PullsOnce (I.tells input.old) (I.tells input.new) }
-    ensures answers { AnswersFew conn.old conn.new }
+    ensures answers { AnswersAtMost TURN_REQUESTS conn.old conn.new }
     ensures tally { MatchResult result
         (λ _. HasCounted conn.old.past conn.new.past tally.old tally.new)
         (HasCountedTo conn.old.past conn.new.past tally.old tally.new) }
-    ensures full { IfOk result (λ state. state ≡ State.Full → until_done ≡ true) }
+    ensures full { IfOk result (λ state. state ≡ State.Full → terms.until_done ≡ true) }
     ensures role { conn.new.role ≡ conn.old.role }
     ensures closed { conn.old.is_closed ≡ true → (result ≡ Ok State.Closed)
         × (conn.new ≡ conn.old) × (worker.new ≡ worker.old)
         × (input.new ≡ input.old) × (output.new ≡ output.old) }
 {
-    if until_done {
-        conn.turn_until(worker, input, output, gate, most, tally)
+    if terms.until_done {
+        conn.turn_until(worker, input, output, gate, terms.most_read, tally)
     } else {
-        conn.turn(worker, input, output, gate, most, tally)
+        conn.turn(worker, input, output, gate, terms.most_read, tally)
     }
 }
 
-/// Makes turns until nothing is left to do, `TURNS` were made, `requests` were answered, the output
-/// is spent, a command is left to the next log, or a fault has ended the connection. Each pulls at
-/// most `most` bytes. Returns the connection's state afterwards.
+/// Makes turns on these terms until nothing is left to do, `TURNS` were made, as many requests were
+/// answered as the terms say, the output is spent, a command is left to the next log, or a fault has
+/// ended the connection. Returns the connection's state afterwards.
 fn turns<I: Input, O: Output + Spends, G: Gate>(
-    until_done: bool,
+    terms: Terms,
     conn: &mut Conn,
     worker: &mut Worker<'_>,
     input: &mut I,
     output: &mut O,
     gate: &mut G,
-    most: usize,
-    requests: u64,
     tally: &mut Tally,
 ) -> State
     requires { FitsLog conn.old.role worker.old }
     ensures served { TakesOrStops
         (scene conn.old worker.old (both (I.tells input.old) (O.tells output.old)))
         (scene conn.new worker.new (both (I.tells input.new) (O.tells output.new))) }
-    ensures stands { Stands until_done
+    ensures stands { Stands terms.until_done
         (scene conn.old worker.old (both (I.tells input.old) (O.tells output.old)))
         (scene conn.new worker.new (both (I.tells input.new) (O.tells output.new))) result }
     ensures few { HasAtMost TURNS (I.tells input.old).events (I.tells input.new).events }
+    ensures reads { MovesAtMost (TURNS * PULL_BYTES) (I.tells input.old).events
+        (I.tells input.new).events }
     ensures answers { AnswersAtMost (TURNS * TURN_REQUESTS) conn.old conn.new }
     ensures role { conn.new.role ≡ conn.old.role }
     ensures tally { IsTallied
@@ -116,9 +125,9 @@ fn turns<I: Input, O: Output + Spends, G: Gate>(
     // The laws from which the clauses on all turns follow.
     mc_conn::laws::turns_add_up();
     mc_conn::laws::counts_add_up();
-    let last = conn.answered().saturating_add(requests);
+    let last = conn.answered().saturating_add(terms.requests);
     for _ in 0..TURNS {
-        match turn_once(until_done, conn, worker, input, output, gate, most, tally) {
+        match turn_once(terms, conn, worker, input, output, gate, tally) {
             Ok(State::Busy) => {
                 if conn.answered() >= last || output.is_spent() {
                     return State::Busy;
@@ -168,17 +177,12 @@ impl Connection {
         let mut input = SocketInput::resume(stream, stops_short, tape, came);
         let tape = mem::replace(sent, Tape::new());
         let mut output = SocketOutput::resume(stream, tape, went, share.written);
-        let state = turns(
+        let terms = Terms {
             until_done,
-            conn,
-            worker,
-            &mut input,
-            &mut output,
-            gate,
-            pace.most_read(share.requests),
-            share.requests,
-            tally,
-        );
+            most_read: pace.most_read(share.requests),
+            requests: share.requests,
+        };
+        let state = turns(terms, conn, worker, &mut input, &mut output, gate, tally);
         (*received, *bytes_received) = input.into_parts();
         (*sent, *bytes_sent) = output.into_parts();
         let given = bytes_received.saturating_sub(came);

@@ -131,11 +131,16 @@ pub fn what_a_serve_costs()
         moved_between old new ≡ length came + length went }
 {}
 
-/// Each time that a connection is served at most 128 of its requests get a reply, whatever its
-/// client sends: so these cost 131,072 at most.
-pub fn few_are_answered_in_a_serve()
-    ensures { (until : Bool) (before after : Worker) (old new : Connection) (state : State) →
-        IsServedLater until before after old new state → answered_between old new ≤ 128 }
+/// Each time that a connection is served at most 128 of its requests get a reply, and at most 32,768
+/// bytes come, whatever its client sends: so the requests cost 131,072 at most, and what came
+/// 32,768.
+pub fn what_a_serve_takes()
+    ensures requests { (until : Bool) (before after : Worker) (old new : Connection)
+        (state : State) → IsServedLater until before after old new state →
+        answered_between old new ≤ 128 }
+    ensures bytes { (until : Bool) (before after : Worker) (old new : Connection) (state : State) →
+        IsServedLater until before after old new state →
+        length (came_of new) ≤ 32768 + length (came_of old) }
 {}
 
 /// While a connection waits in a flow and none of that flow is served, the serves of each other

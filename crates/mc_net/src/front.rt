@@ -34,6 +34,22 @@ use std::thread::Threads;
 use uc_log::Log;
 use uc_worker::{Gate, Worker};
 
+/// How large a front is, and how much it serves.
+#[derive(Clone, Copy, Debug)]
+pub struct FrontSettings {
+    /// How many workers each log has.
+    pub workers: usize,
+    /// How many tenants each log has.
+    pub tenants: usize,
+    /// How many of its places for connections each worker keeps for each tenant.
+    pub reserve: usize,
+    /// A log that another may follow is closed once its commands keep this many bytes, before all
+    /// its places are taken.
+    pub log_bytes: u64,
+    /// How many streams of tenants are accepted; 0 for no end.
+    pub connections: u64,
+}
+
 /// The acceptor with its listeners, the event loops with their connections, and each loop's
 /// mailbox.
 ///
@@ -63,39 +79,35 @@ fn new_poll<R: Net>(rt: &R, alloc: Global) -> Result<(Poll, Mailbox), Halt> {
     }
 }
 
-/// Returns `count` event loops for logs of this many tenants, for each of which `reserve` places
-/// are kept at each loop, and the mailbox of each. A log is closed once its commands keep
-/// `log_bytes` bytes. The first loops show their workers' numbers, each by one of the publishers.
+/// Returns the event loops of a front with these settings, one for each worker, and the mailbox of
+/// each. The first loops show their workers' numbers, each by one of the publishers.
 ///
 /// Returns `Memory` if memory runs out, and `Poll` if a poll or a mailbox can't be made.
 fn new_event_loops<R: Net>(
     rt: &R,
     alloc: Global,
-    count: usize,
-    tenants: usize,
-    reserve: usize,
-    log_bytes: u64,
+    settings: FrontSettings,
     publishers: Vec<Publisher>,
 ) -> Result<(Vec<Mailbox>, Vec<EventLoop>), Halt>
-    requires { tenants * reserve ≤ MOST_CONNECTIONS }
-    ensures mailboxes { IfOk result (λ pair. vec_len pair.0 ≡ count) }
-    ensures many { IfOk result (λ pair. vec_len pair.1 ≡ count) }
-    ensures new { IfOk result (λ pair. All (IsNewLoop tenants) pair.1.items) }
-    ensures reserve { IfOk result (λ pair. All (KeepsAt reserve) pair.1.items) }
-    ensures bytes { IfOk result (λ pair. All (ClosesAt log_bytes) pair.1.items) }
+    requires { settings.tenants * settings.reserve ≤ MOST_CONNECTIONS }
+    ensures mailboxes { IfOk result (λ pair. vec_len pair.0 ≡ settings.workers) }
+    ensures many { IfOk result (λ pair. vec_len pair.1 ≡ settings.workers) }
+    ensures new { IfOk result (λ pair. All (IsNewLoop settings.tenants) pair.1.items) }
+    ensures reserve { IfOk result (λ pair. All (KeepsAt settings.reserve) pair.1.items) }
+    ensures bytes { IfOk result (λ pair. All (ClosesAt settings.log_bytes) pair.1.items) }
 {
     let mut mailboxes = Vec::new(alloc);
     let mut event_loops = Vec::new(alloc);
     let mut publishers = publishers.into_iter();
-    for _ in 0..count {
+    for _ in 0..settings.workers {
         let (poll, mailbox) = new_poll(rt, alloc)?;
         mailboxes.push(mailbox)?;
         event_loops.push(EventLoop::new(
             alloc,
             poll,
-            tenants,
-            reserve,
-            log_bytes,
+            settings.tenants,
+            settings.reserve,
+            settings.log_bytes,
             publishers.next(),
         )?)?;
     }
@@ -119,44 +131,38 @@ fn role_listeners(
 }
 
 impl Front {
-    /// Returns the front of these listeners, for this many workers of each log of this many
-    /// tenants. It is to accept `connections` streams of tenants; 0 for no end. Each worker keeps
-    /// `reserve` of its places for each tenant. A log that another may follow is closed once its
-    /// commands keep `log_bytes` bytes, before all its places are taken. Between two rounds the
-    /// first workers show their numbers, each by one of the publishers.
+    /// Returns the front of these listeners, with these settings. Between two rounds the first
+    /// workers show their numbers, each by one of the publishers.
     ///
     /// Returns `Memory` if memory runs out, and `Input` if a poll or a mailbox can't be made.
     pub fn new<R: Net>(
         rt: &R,
         alloc: Global,
+        settings: FrontSettings,
         listeners: Vec<(Role, BoundListener)>,
-        connections: u64,
-        workers: usize,
-        tenants: usize,
-        reserve: usize,
-        log_bytes: u64,
         publishers: Vec<Publisher>,
     ) -> Result<Front, Fault>
-        requires reserves { tenants * reserve ≤ MOST_CONNECTIONS }
-        requires some { (0 < workers) × (0 < vec_len listeners) }
-        requires roles { All (λ listener. IsAmong listener.0 tenants) listeners.items }
-        ensures many { IfOk result (λ front. vec_len front.event_loops ≡ workers) }
-        ensures tenants { IfOk result (λ front. front.tenants ≡ tenants) }
+        requires reserves { settings.tenants * settings.reserve ≤ MOST_CONNECTIONS }
+        requires some { (0 < settings.workers) × (0 < vec_len listeners) }
+        requires roles { All (λ listener. IsAmong listener.0 settings.tenants) listeners.items }
+        ensures many { IfOk result (λ front. vec_len front.event_loops ≡ settings.workers) }
+        ensures tenants { IfOk result (λ front. front.tenants ≡ settings.tenants) }
         // Nobody has been served yet.
-        ensures new { IfOk result (λ front. All (IsNewLoop tenants) front.event_loops.items) }
-        ensures reserve { IfOk result (λ front. All (KeepsAt reserve) front.event_loops.items) }
-        ensures bytes { IfOk result (λ front. All (ClosesAt log_bytes) front.event_loops.items) }
-        ensures connections { IfOk result (λ front. front.acceptor.most ≡ connections) }
+        ensures new { IfOk result
+            (λ front. All (IsNewLoop settings.tenants) front.event_loops.items) }
+        ensures reserve { IfOk result
+            (λ front. All (KeepsAt settings.reserve) front.event_loops.items) }
+        ensures bytes { IfOk result
+            (λ front. All (ClosesAt settings.log_bytes) front.event_loops.items) }
+        ensures connections { IfOk result (λ front. front.acceptor.most ≡ settings.connections) }
         ensures listeners { IfOk result
             (λ front. listeners_of front.acceptor.listeners.items ≡ listeners.items) }
         ensures faults { MatchResult result (λ _. ⊤) IsNetworkFault }
     {
-        let (of_workers, event_loops) = new_event_loops(
-            rt, alloc, workers, tenants, reserve, log_bytes, publishers,
-        )?;
+        let (of_workers, event_loops) = new_event_loops(rt, alloc, settings, publishers)?;
         let (poll, of_acceptor) = new_poll(rt, alloc)?;
         let listeners = role_listeners(alloc, listeners)?;
-        let acceptor = Acceptor::new(alloc, poll, listeners, connections)?;
+        let acceptor = Acceptor::new(alloc, poll, listeners, settings.connections)?;
         let mailboxes = Mailboxes {
             of_workers,
             of_acceptor,
@@ -165,7 +171,7 @@ impl Front {
             acceptor,
             mailboxes,
             event_loops,
-            tenants,
+            tenants: settings.tenants,
         })
     }
 

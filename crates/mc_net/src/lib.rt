@@ -11,7 +11,7 @@
 
 pub use beginning::Begin;
 pub use ended::Ended;
-pub use front::Front;
+pub use front::{Front, FrontSettings};
 pub use halt::Halt;
 pub use handing::{Accepted, Receive, accept_one, hand_over};
 pub use listener::{BoundListener, Listen, RoleListener};

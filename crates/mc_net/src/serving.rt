@@ -8,7 +8,7 @@ ghost use Rattle.mc_net.specs.Beginning.{HaltsServing};
 ghost use Rattle.mc_net.specs.Returning.{HasAnswered, HasBeenAsked, HasServed, returned_worker};
 
 use crate::beginning::Begin;
-use crate::front::Front;
+use crate::front::{Front, FrontSettings};
 use crate::listener::BoundListener;
 use crate::worker_thread::Returned;
 use mc_conn::Role;
@@ -92,22 +92,15 @@ pub fn serve<'a, R: Threads + Wait + Net + Sync, G: Gate + Send + Drop, B: Begin
     mc_connections::laws::work_adds_up();
     mc_connections::laws::connections_are_answered_over_logs();
     mc_connections::laws::commands_are_asked_for_over_logs();
-    let tenants = log.settings().tenants().len();
     // No tenant has a reserve, the only log is closed at its last place, and nobody looks on.
-    let reserve = 0;
-    let bytes = u64::MAX;
-    let publishers = Vec::new(alloc);
-    let mut front = Front::new(
-        rt,
-        alloc,
-        listeners,
+    let settings = FrontSettings {
+        workers: workers.len(),
+        tenants: log.settings().tenants().len(),
+        reserve: 0,
+        log_bytes: u64::MAX,
         connections,
-        workers.len(),
-        tenants,
-        reserve,
-        bytes,
-        publishers,
-    )?;
+    };
+    let mut front = Front::new(rt, alloc, settings, listeners, Vec::new(alloc))?;
     let (workers, _) = front.serve_generation(rt, alloc, log, workers, gates, true, begin, state)?;
     Ok(front.into_returned(alloc, workers)?)
 }

@@ -9,7 +9,7 @@ use crate::house::{Counting, House, open_workers};
 use crate::signals::{Holding, Signals};
 use crate::visits::{QUOTAS, Visit, connections_of, gates_of, opened};
 use mc_model::{Fault, Limits, Settings};
-use mc_net::{Ended, Front};
+use mc_net::{Ended, Front, FrontSettings};
 use std::alloc::Global;
 use std::io;
 use std::net::{Net, TcpListener, TcpStream};
@@ -118,19 +118,14 @@ fn serve_two<R: Threads + Wait + Net + Sync>(
     if listeners.is_empty() || count == 0 || count != gates.len() {
         return Err(Fault::BadSettings);
     }
-    let tenants = log.settings().tenants().len();
-    let bytes = u64::MAX;
-    let mut front = Front::new(
-        rt,
-        alloc,
-        listeners,
+    let front_settings = FrontSettings {
+        workers: count,
+        tenants: log.settings().tenants().len(),
+        reserve: 0,
+        log_bytes: u64::MAX,
         connections,
-        count,
-        tenants,
-        0,
-        bytes,
-        Vec::new(alloc),
-    )?;
+    };
+    let mut front = Front::new(rt, alloc, front_settings, listeners, Vec::new(alloc))?;
     let mut begun = 0;
     let (mut workers, first) = front.serve_generation(
         rt, alloc, &log, workers, gates, false, &Counting, &mut begun,

@@ -18,7 +18,7 @@ use crate::opened::Opened;
 use crate::scraping::{LogWatch, Scraping, Shows, new_shows};
 use crate::wanted::wanted_by;
 use mc_model::Fault;
-use mc_net::{Begin, BoundListener, Front};
+use mc_net::{Begin, BoundListener, Front, FrontSettings};
 use mc_programs::{answer_words, fail, tell_fault};
 use mc_scraping::Stop as StopScraping;
 use mc_stream::Output;
@@ -167,17 +167,14 @@ where
         mut watch,
         scraping,
     } = new_shows(rt, alloc, service, metrics)?;
-    let mut front = Front::new(
-        rt,
-        alloc,
-        listeners,
-        service.connections,
-        service.settings.workers() as usize,
-        service.settings.tenants().len(),
-        service.reserve,
-        service.log_bytes,
-        publishers,
-    )?;
+    let settings = FrontSettings {
+        workers: service.settings.workers() as usize,
+        tenants: service.settings.tenants().len(),
+        reserve: service.reserve,
+        log_bytes: service.log_bytes,
+        connections: service.connections,
+    };
+    let mut front = Front::new(rt, alloc, settings, listeners, publishers)?;
     let text = ready_text(alloc, &told)?;
     let announcement = Announcement { text };
     let number = serve_scraped(

@@ -6,15 +6,15 @@ use Rattle.mc_connections.proofs.Turning.{on_err}
 use Rattle.mc_stream.specs.Stream.{both}
 use Rattle.mc_connections.proofs.connecting.turn_once.Goals as goal
 
-pub returns-then-until_done-clause-outcome : goal.returns-then-until_done-clause-outcome
-returns-then-until_done-clause-outcome g c =
+pub returns-then-terms-clause-outcome : goal.returns-then-terms-clause-outcome
+returns-then-terms-clause-outcome g c =
     let before = scene c.args.conn.now c.args.worker.now (both (g.I.Input.tells c.args.input.now) (g.O.Output.tells c.args.output.now)) in
     let after = scene c.turn_until.new.self c.turn_until.new.worker (both (g.I.Input.tells c.turn_until.new.input) (g.O.Output.tells c.turn_until.new.output)) in
-    subst (λ (until : Bool). c.args.conn.now.is_closed ≡ false → MatchResult c.turn_until.result (TurnsOnce until before after) (Stops before after)) (sym c.if-until_done.true)
+    subst (λ (until : Bool). c.args.conn.now.is_closed ≡ false → MatchResult c.turn_until.result (TurnsOnce until before after) (Stops before after)) (sym c.if-terms.true)
     (λ going. on_err c.turn_until.result (TurnsUntil before after) (StopsUntil before after) (Stops before after) (λ fault ended. ended.stops) (c.turn_until.ensures.outcome going))
 
-pub returns-else-until_done-clause-outcome : goal.returns-else-until_done-clause-outcome
-returns-else-until_done-clause-outcome g c =
+pub returns-else-terms-clause-outcome : goal.returns-else-terms-clause-outcome
+returns-else-terms-clause-outcome g c =
     let before = scene c.args.conn.now c.args.worker.now (both (g.I.Input.tells c.args.input.now) (g.O.Output.tells c.args.output.now)) in
     let after = scene c.turn.new.self c.turn.new.worker (both (g.I.Input.tells c.turn.new.input) (g.O.Output.tells c.turn.new.output)) in
-    subst (λ (until : Bool). c.args.conn.now.is_closed ≡ false → MatchResult c.turn.result (TurnsOnce until before after) (Stops before after)) (sym c.if-until_done.false) c.turn.ensures.outcome
+    subst (λ (until : Bool). c.args.conn.now.is_closed ≡ false → MatchResult c.turn.result (TurnsOnce until before after) (Stops before after)) (sym c.if-terms.false) c.turn.ensures.outcome

@@ -1,14 +1,14 @@
 use Rattle.std.proofs.Common.{◌≡◌, ap, arith, inl, inr, refl, subst, sym, true, ⊎_elim, ◌∙◌}
 use Rattle.mc_conn.specs.declared.conn.State.TheVariants.{Busy, Closed}
 use Rattle.mc_stream.specs.Stream.{both}
-use Rattle.mc_connections.proofs.Servings.{met_fault, once_few, served_later, stands_later, stands_turn, state_answered, taken_turn}
+use Rattle.mc_connections.proofs.Servings.{met_fault, once_few, once_moves, served_later, stands_later, stands_turn, state_answered, taken_turn}
 use Rattle.mc_connections.specs.Serving.{Stands}
 use Rattle.mc_conn.specs.Turn.{Takes, scene}
 use Rattle.mc_connections.proofs.Tallied.{tallied, tallied_to}
 use Rattle.mc_connections.proofs.connecting.turns.Goals as goal
 
 pub loop-init : goal.loop-init
-loop-init g c = record { going = c.turns_add_up.ensures.none _; stands = inl refl; few = omega arith; answers = omega arith; role = refl; tally = c.counts_add_up.ensures.none _ _ }
+loop-init g c = record { going = c.turns_add_up.ensures.none _; stands = inl refl; few = omega arith; reads = omega arith; answers = omega arith; role = refl; tally = c.counts_add_up.ensures.none _ _ }
 
 -- if it was closed, nothing was done
 pub returns-in-Ok : goal.returns-in-Ok
@@ -18,12 +18,13 @@ returns-in-Ok g c =
     let same : c.loop.conn.is_closed ≡ true → (c.in-Ok.state ≡ Closed) × (after.conn ≡ before.conn) × (after.worker ≡ before.worker) × (after.streams ≡ before.streams) = λ is.
     let all = c.turn_once.ensures.closed is in
     (sym (ap state_answered c.in-Ok.is) ∙ ap state_answered all.0, all.1, all.2, λ i. both (g.I.Input.tells (all.3 i)) (g.O.Output.tells (all.4 i))) in
-    let takes : Takes before after = taken_turn c.args.until_done c.turns_add_up.ensures.none _ _ _ _ c.in-Ok.state c.in-Ok.ensures.full c.turn_once.ensures.pulls c.in-Ok.ensures.outcome same in
-    let stands : Stands c.args.until_done before after c.in-Ok.state = stands_turn c.args.until_done c.turns_add_up.ensures.none _ _ _ _ c.in-Ok.state c.in-Ok.ensures.full c.turn_once.ensures.pulls c.in-Ok.ensures.outcome same in
+    let takes : Takes before after = taken_turn c.args.terms.until_done c.turns_add_up.ensures.none _ _ _ _ c.in-Ok.state c.in-Ok.ensures.full c.turn_once.ensures.pulls c.in-Ok.ensures.outcome same in
+    let stands : Stands c.args.terms.until_done before after c.in-Ok.state = stands_turn c.args.terms.until_done c.turns_add_up.ensures.none _ _ _ _ c.in-Ok.state c.in-Ok.ensures.full c.turn_once.ensures.pulls c.in-Ok.ensures.outcome same in
     record {
       served = inl (c.turns_add_up.ensures.through _ _ _ c.loop.invariant.going takes);
-      stands = stands_later c.args.until_done c.turns_add_up.ensures.through _ _ _ c.in-Ok.state c.loop.invariant.going (inl takes) stands;
+      stands = stands_later c.args.terms.until_done c.turns_add_up.ensures.through _ _ _ c.in-Ok.state c.loop.invariant.going (inl takes) stands;
       few = omega (arith, c.loop.invariant.few, c.loop-test.true, once_few _ _ c.turn_once.ensures.pulls);
+      reads = omega (arith, c.loop.invariant.reads, c.loop-test.true, once_moves _ _ c.turn_once.ensures.pulls);
       answers = omega (arith, c.loop.invariant.answers, c.loop-test.true, c.turn_once.ensures.answers);
       role = c.turn_once.ensures.role ∙ c.loop.invariant.role;
       tally = tallied _ _ _ _ _ _ c.loop.invariant.going c.loop.invariant.tally c.turns_add_up.ensures.through c.counts_add_up.ensures.through takes c.in-Ok.ensures.tally;
@@ -43,12 +44,13 @@ returns-then-answered-last g c =
     let same : c.loop.conn.is_closed ≡ true → (state ≡ Closed) × (after.conn ≡ before.conn) × (after.worker ≡ before.worker) × (after.streams ≡ before.streams) = λ is.
     let all = c.turn_once.ensures.closed is in
     (sym (ap state_answered c.in-Ok-Busy.is) ∙ ap state_answered all.0, all.1, all.2, λ i. both (g.I.Input.tells (all.3 i)) (g.O.Output.tells (all.4 i))) in
-    let takes : Takes before after = taken_turn c.args.until_done c.turns_add_up.ensures.none _ _ _ _ state c.in-Ok-Busy.ensures.full c.turn_once.ensures.pulls c.in-Ok-Busy.ensures.outcome same in
-    let stands : Stands c.args.until_done before after state = stands_turn c.args.until_done c.turns_add_up.ensures.none _ _ _ _ state c.in-Ok-Busy.ensures.full c.turn_once.ensures.pulls c.in-Ok-Busy.ensures.outcome same in
+    let takes : Takes before after = taken_turn c.args.terms.until_done c.turns_add_up.ensures.none _ _ _ _ state c.in-Ok-Busy.ensures.full c.turn_once.ensures.pulls c.in-Ok-Busy.ensures.outcome same in
+    let stands : Stands c.args.terms.until_done before after state = stands_turn c.args.terms.until_done c.turns_add_up.ensures.none _ _ _ _ state c.in-Ok-Busy.ensures.full c.turn_once.ensures.pulls c.in-Ok-Busy.ensures.outcome same in
     record {
       served = inl (c.turns_add_up.ensures.through _ _ _ c.loop.invariant.going takes);
-      stands = stands_later c.args.until_done c.turns_add_up.ensures.through _ _ _ Busy c.loop.invariant.going (inl takes) (subst (Stands c.args.until_done before after) c.in-Ok-Busy.field-0-is stands);
+      stands = stands_later c.args.terms.until_done c.turns_add_up.ensures.through _ _ _ Busy c.loop.invariant.going (inl takes) (subst (Stands c.args.terms.until_done before after) c.in-Ok-Busy.field-0-is stands);
       few = omega (arith, c.loop.invariant.few, c.loop-test.true, once_few _ _ c.turn_once.ensures.pulls);
+      reads = omega (arith, c.loop.invariant.reads, c.loop-test.true, once_moves _ _ c.turn_once.ensures.pulls);
       answers = omega (arith, c.loop.invariant.answers, c.loop-test.true, c.turn_once.ensures.answers);
       role = c.turn_once.ensures.role ∙ c.loop.invariant.role;
       tally = tallied _ _ _ _ _ _ c.loop.invariant.going c.loop.invariant.tally c.turns_add_up.ensures.through c.counts_add_up.ensures.through takes c.in-Ok-Busy.ensures.tally;
@@ -63,12 +65,13 @@ loop-preserved g c =
     let same : c.loop.conn.is_closed ≡ true → (state ≡ Closed) × (after.conn ≡ before.conn) × (after.worker ≡ before.worker) × (after.streams ≡ before.streams) = λ is.
     let all = c.turn_once.ensures.closed is in
     (sym (ap state_answered c.in-Ok-Busy.is) ∙ ap state_answered all.0, all.1, all.2, λ i. both (g.I.Input.tells (all.3 i)) (g.O.Output.tells (all.4 i))) in
-    let takes : Takes before after = taken_turn c.args.until_done c.turns_add_up.ensures.none _ _ _ _ state c.in-Ok-Busy.ensures.full c.turn_once.ensures.pulls c.in-Ok-Busy.ensures.outcome same in
-    let stands : Stands c.args.until_done before after state = stands_turn c.args.until_done c.turns_add_up.ensures.none _ _ _ _ state c.in-Ok-Busy.ensures.full c.turn_once.ensures.pulls c.in-Ok-Busy.ensures.outcome same in
+    let takes : Takes before after = taken_turn c.args.terms.until_done c.turns_add_up.ensures.none _ _ _ _ state c.in-Ok-Busy.ensures.full c.turn_once.ensures.pulls c.in-Ok-Busy.ensures.outcome same in
+    let stands : Stands c.args.terms.until_done before after state = stands_turn c.args.terms.until_done c.turns_add_up.ensures.none _ _ _ _ state c.in-Ok-Busy.ensures.full c.turn_once.ensures.pulls c.in-Ok-Busy.ensures.outcome same in
     record {
       going = c.turns_add_up.ensures.through _ _ _ c.loop.invariant.going takes;
-      stands = inr (stands_later c.args.until_done c.turns_add_up.ensures.through _ _ _ Busy c.loop.invariant.going (inl takes) (subst (Stands c.args.until_done before after) c.in-Ok-Busy.field-0-is stands));
+      stands = inr (stands_later c.args.terms.until_done c.turns_add_up.ensures.through _ _ _ Busy c.loop.invariant.going (inl takes) (subst (Stands c.args.terms.until_done before after) c.in-Ok-Busy.field-0-is stands));
       few = omega (arith, c.loop.invariant.few, once_few _ _ c.turn_once.ensures.pulls);
+      reads = omega (arith, c.loop.invariant.reads, once_moves _ _ c.turn_once.ensures.pulls);
       answers = omega (arith, c.loop.invariant.answers, c.turn_once.ensures.answers);
       role = c.turn_once.ensures.role ∙ c.loop.invariant.role;
       tally = c.counts_add_up.ensures.through _ _ _ _ _ _ c.loop.invariant.tally c.in-Ok-Busy.ensures.tally;

@@ -7,7 +7,7 @@ abbrev pub invariant-loop : goal.invariant-loop
 invariant-loop g l = record {
   mailboxes : vec_len l.mailboxes ≡ l.counter;
   many : vec_len l.event_loops ≡ l.counter;
-  new : All (IsNewLoop l.fn.tenants) l.event_loops.items;
-  reserve : All (KeepsAt l.fn.reserve) l.event_loops.items;
-  bytes : All (ClosesAt l.fn.log_bytes) l.event_loops.items;
+  new : All (IsNewLoop l.fn.settings.tenants) l.event_loops.items;
+  reserve : All (KeepsAt l.fn.settings.reserve) l.event_loops.items;
+  bytes : All (ClosesAt l.fn.settings.log_bytes) l.event_loops.items;
 }
