@@ -40,6 +40,7 @@ CONNECTIONS = 410
 MOST_REQUESTS = 100_000_000
 QUIET_REQUESTS = 2_000_000
 FLUSHED = 400_000
+EMPTY_APPENDS = 200_000
 PROCESSORS = sorted(os.sched_getaffinity(0))
 # As many names of one letter as a line of 65,536 bytes has.
 NAMES = 32_766
@@ -119,12 +120,36 @@ def appends(client):
     return True
 
 
-def fills_and_flushes(client):
-    """Sets many items, and flushes them."""
+def fills(client):
+    """Sets many items."""
     for first in range(0, FLUSHED, 1000):
         text = b"".join(b"set f%06d 0 0 1 noreply\r\nx\r\n" % at for at in range(first, first + 1000))
         client.ask(text + b"version\r\n", b"\r\n")
+
+
+def fills_and_flushes(client):
+    """Sets many items, and flushes them."""
+    fills(client)
     client.line(b"flush_all\r\n")
+    return True
+
+
+def flushes(client):
+    """Flushes what is empty, as often as a turn takes requests."""
+    client.ask(b"flush_all noreply\r\n" * 63 + b"flush_all\r\n", b"\r\n")
+    return True
+
+
+def appends_nothing(client):
+    """An item of a byte, to which no bytes are appended many times."""
+    client.line(a_set(b"n", 1))
+    for _ in range(0, EMPTY_APPENDS, 1000):
+        client.ask(b"append n 0 0 0 noreply\r\n\r\n" * 1000 + b"version\r\n", b"\r\n")
+
+
+def increments(client):
+    """Increments of what isn't a number, as often as a turn takes requests."""
+    client.ask(b"incr n 1 noreply\r\n" * 63 + b"incr n 1\r\n", b"\r\n")
     return True
 
 
@@ -136,6 +161,7 @@ def closes(client):
 
 NOBODY = "nobody"
 FLUSHES = f"{FLUSHED:,} items are set and flushed"
+FLUSHES_AGAIN = f"flushes, after {FLUSHED:,} items were set"
 CASES = {
     NOBODY: None,
     "8 connections of depth 16": Loaded("8", "16"),
@@ -145,6 +171,8 @@ CASES = {
     f"{SHORT_LINES:,} lines of a byte at once": Rounds(short_lines),
     "appends to an item of 1 MiB": Rounds(appends, before=lambda client: client.line(a_set(b"long", MEBIBYTE - 1000))),
     FLUSHES: Rounds(fills_and_flushes),
+    FLUSHES_AGAIN: Rounds(flushes, before=fills),
+    f"incr of an item after {EMPTY_APPENDS:,} empty appends": Rounds(increments, before=appends_nothing),
     "connections that are made and closed": Rounds(closes, clients=4),
 }
 
@@ -204,7 +232,7 @@ def run(load, words, name, start):
     """Prints what one run measured at a server; returns its 99th percentiles by case."""
     found = {}
     for case in words.cases:
-        if case == FLUSHES and name.startswith("memcached"):
+        if case in (FLUSHES, FLUSHES_AGAIN) and name.startswith("memcached"):
             continue
         for what, value, unit in measure(load, words.seconds, start(), CASES[case]):
             print_figure(f"{name}: {case}: {what}", value, unit)

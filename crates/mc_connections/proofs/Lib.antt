@@ -9,6 +9,7 @@ pub mod Rounds
 pub mod SeenInOrder
 pub mod Servings
 pub mod Sharing
+pub mod OverRounds
 pub mod StaysFair
 pub mod Turning
 pub mod Workings

@@ -13,7 +13,7 @@ use Rattle.mc_connections.specs.Sharing.{IsOfAnother, OneServe, OnlyTheTurnGoesO
 use Rattle.mc_connections.specs.Waiting.{ComesToWait, flow_of}
 use Rattle.mc_connections.specs.declared.waiting.Waiting.{Waiting}
 
-cond_few : (b : Bool) (cost most : ℕ) → cost ≤ most → cond b cost 0 ≤ most
+pub cond_few : (b : Bool) (cost most : ℕ) → cost ≤ most → cond b cost 0 ≤ most
 cond_few true cost most few = few
 cond_few false cost most few = omega arith
 
@@ -35,7 +35,7 @@ waited_on Idle tenant key old new some waits = inr waits.0
 waited_on Closed tenant key old new some waits = inr waits.0
 
 -- there are flows once one has given a key
-some_flows : (old new : QueueState) (flow key : ℕ) → GivesFirst flow key old new → 0 < length new.flows
+pub some_flows : (old new : QueueState) (flow key : ℕ) → GivesFirst flow key old new → 0 < length new.flows
 some_flows old new flow key given =
     let within : flow < length old.flows = given.next.comes.0 in
     let same : length new.flows ≡ length old.flows = ap (λ (state : QueueState). length state.flows) given.taken ∙ length-set old.flows flow _ in

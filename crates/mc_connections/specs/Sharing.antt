@@ -1,8 +1,9 @@
 -- What the serves of a round cost each flow while another one waits, and where a round ends; this
 -- project's profile, by the turns of flows (surplus round-robin) that `fair_queue` has.
-use Rattle.std.specs.Prelude.{◌≡◌, ◌≢◌, ℕ, ◌+◌, ◌<◌, ◌≤◌, Bool, List, [], ◌∷◌, All, length, cond, nat_eq}
-use Rattle.fair_queue.specs.Turns.{IsFair, TurnGoesOn, flow_at}
-use Rattle.mc_connections.specs.Round.{Queued, ServeInTurn, ServesNext}
+use Rattle.std.specs.Prelude.{◌≡◌, ◌≢◌, ℕ, ◌+◌, ◌*◌, ◌<◌, ◌≤◌, Bool, List, [], ◌∷◌, ◌++◌, All, length, cond, nat_eq}
+use Rattle.mio.specs.declared.event.event.Event.{Event}
+use Rattle.fair_queue.specs.Turns.{IsFair, IsIdle, TurnGoesOn, flow_at}
+use Rattle.mc_connections.specs.Round.{MakesRound, Queued, ServeInTurn, ServesNext}
 use Rattle.mc_connections.specs.declared.waiting.TheConstants.{ROUND}
 
 -- a serve of a connection: the flow in which it waited, and what this has cost
@@ -39,6 +40,46 @@ OthersTakeOneTurnEach =
     ServesLead until before serves after → before.waiting.spent ≤ most →
     All (IsOfAnother waiting most) serves →
     cost_in other serves ≤ before.waiting.queue.quantum + (most + most)
+
+-- how many of these serves are of a flow
+abbrev pub serves_in : ℕ → List OneServe → ℕ
+serves_in flow [] = 0
+serves_in flow (serve ∷ serves) = cond (nat_eq serve.flow flow) 1 0 + serves_in flow serves
+
+-- the serve costs no more than that
+abbrev pub CostsNoMore : ℕ → OneServe → Type 0
+CostsNoMore most serve = serve.cost ≤ most
+
+-- a round for these events, with these serves
+pub record IsRoundOf (until : Bool) (events : List Event) (before : Queued)
+    (serves : List OneServe) (after : Queued) : Type 0 where
+  pub round : MakesRound until events before after
+  pub leads : ServesLead until
+      (record before { waiting = record round.noted { spent_in_round = 0 } }) serves round.last
+
+-- Rounds followed one another, with these serves in all, and at the end of each somebody waited.
+-- Between two rounds arrivals may be admitted and the worker may catch up; who waits, and what is
+-- spent, is then as it was.
+pub data RoundsLead (until : Bool) (first : Queued) : List OneServe → Queued → Type 0 where
+  no_round : RoundsLead until first [] first
+  one_round : (serves more : List OneServe) (events : List Event) (between begun last : Queued) →
+      RoundsLead until first serves between → begun.waiting ≡ between.waiting →
+      IsRoundOf until events begun more last → ¬ (IsIdle last.waiting.queue) →
+      RoundsLead until first (serves ++ more) last
+
+-- While a connection waits behind `ahead` others of its flow, over as many rounds as that takes, the
+-- serves of each other flow cost a quantum at most and what the dearest serve does, for each of
+-- these others and once for the connection itself; and what the latest serve costs, which is charged
+-- before the next one. That is while at most `ahead` of its flow are served.
+abbrev pub OthersTakeOneTurnPerConnection : Type 0
+OthersTakeOneTurnPerConnection =
+    (until : Bool) (first last : Queued) (serves : List OneServe) (waiting other ahead most : ℕ) →
+    IsFair first.waiting.queue → waiting < length first.waiting.queue.flows →
+    ahead < length (flow_at first.waiting.queue waiting).ready →
+    other < length first.waiting.queue.flows → other ≢ waiting →
+    RoundsLead until first serves last → first.waiting.spent ≤ most →
+    All (CostsNoMore most) serves → serves_in waiting serves ≤ ahead →
+    cost_in other serves ≤ (ahead + 1) * (first.waiting.queue.quantum + most) + most
 
 -- those that were served one after another in a round are such serves
 abbrev pub RoundsAreServes : Type 0

@@ -19,7 +19,7 @@ ghost use Rattle.mc_connections.specs.Life.{OwesInLogs, OwesInParts, WasAnswered
 ghost use Rattle.mc_connections.specs.Round.{HaveCome, IsOfConnection, MakesRound, Queued, ServesNext, TellsEnd};
 ghost use Rattle.mc_connections.specs.Seen.{AreAnsweredFrom, IsAnsweredAmong, IsThere, SeesThenAsks, SplitsAtLast, WasSent, announced_number, history_place};
 ghost use Rattle.mc_connections.specs.Serving.{HasComeTo, IsServedLater, answered_between, moved_between, tenant_of};
-ghost use Rattle.mc_connections.specs.Sharing.{OnlyTheTurnGoesOn, OthersTakeOneTurnEach, RoundsAreServes};
+ghost use Rattle.mc_connections.specs.Sharing.{OnlyTheTurnGoesOn, OthersTakeOneTurnEach, OthersTakeOneTurnPerConnection, RoundsAreServes};
 ghost use Rattle.mc_connections.specs.Tallying.{tally_place};
 ghost use Rattle.mc_connections.specs.Waiting.{LetsWait, WaitsInLine, cost_of, flow_of, short_at};
 ghost use Rattle.mc_connections.specs.Working.{IsEmpty, KeepsPlaces, Standing, Works, standing};
@@ -151,6 +151,15 @@ pub fn others_take_one_turn_each()
     ensures rounds { RoundsAreServes }
 {
     fair_queue::laws::a_flow_waits_for_one_quantum_of_each_other();
+}
+
+/// The same of a connection that waits behind others of its tenant, and of rounds one after another:
+/// for each of these others, and once for the connection itself, the serves of each other tenant
+/// cost a quantum at most and what the dearest serve does, in however many rounds.
+pub fn others_take_one_turn_per_connection()
+    ensures { OthersTakeOneTurnPerConnection }
+{
+    fair_queue::laws::a_key_waits_for_one_quantum_of_each_other_flow_per_key_up_to_it();
 }
 
 /// No flow of a worker's queue has more than a quantum left when it is new, as `ReadyQueue::new`

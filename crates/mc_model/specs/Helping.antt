@@ -9,7 +9,7 @@ use Rattle.mc_model.specs.declared.shown.LogSize.{LogSize}
 use Rattle.mc_model.specs.declared.shown.Phase.TheVariants.{Idle, Pending, Looked}
 use Rattle.mc_model.specs.declared.shown.ShownState.{ShownState}
 use Rattle.mc_model.specs.declared.shown.WorkerState.{WorkerState}
-use Rattle.mc_model.specs.Lawful.{HasRoom, IsReached, IsWorker, LeadOn, ShownEvent, Step, announced_by, announces}
+use Rattle.mc_model.specs.Lawful.{HasRoom, IsReached, IsWorker, LeadOn, ShownEvent, Step, announced_by, announces, proposes}
 use Rattle.mc_model.specs.Legal.{IsLegal, StandsBefore, count, ticket_of}
 
 -- a worker knows the first places, all its commands but the pending one stand there, and the ticket
@@ -62,6 +62,18 @@ HelpingLaw size state =
     × ((mark : ℕ) → worker.mark ≡ Some mark →
     IsHelped size state (ticket_of number (worker.announced - 1)) mark
     × (worker.proposals + mark ≤ length worker.learned))
+
+-- a mark stays where it is until its worker announces again
+abbrev pub MarksStay : LogSize → Type 0
+MarksStay size =
+    (old new : ShownState) (event : ShownEvent) (number mark : ℕ) (before after : WorkerState) →
+    Step size old event new → event ≢ announces number → IsWorker old number before →
+    IsWorker new number after → before.mark ≡ Some mark → after.mark ≡ Some mark
+
+-- a look is used by one proposal
+abbrev pub LooksAreUsed : LogSize → Type 0
+LooksAreUsed size = (old new : ShownState) (number : ℕ) (after : WorkerState) →
+    Step size old (proposes number) new → IsWorker new number after → after.look ≡ None
 
 -- a command that is announced while d places are decided stands among the first d + `more` places
 -- once that many are decided, whatever happens in between and whichever workers stop

@@ -138,29 +138,38 @@ impl<'a> Fragments<'a> {
         self.len as usize
     }
 
-    /// Appends a block, without copying its data. Returns `Memory` if an allocation fails; the data
-    /// are unchanged then.
+    /// Appends a block, without copying its data; one without bytes adds no fragment. Returns
+    /// `Memory` if an allocation fails; the data are unchanged then.
     pub fn append(&mut self, alloc: Global, block: &'a Data) -> Result<(), Fault>
         requires { length self.old + length block.now ≤ DATA_BYTES }
         ensures joined { OnOk result (self.new ≡ self.old ++ block.now) }
         ensures memory { IsOkUnless result Fault.Memory }
         ensures unchanged { OnErr result (self.new ≡ self.old) }
+        // What has no bytes takes no memory, so that a short number has few fragments.
+        ensures nothing { length block.now ≡ 0 → IsOk result }
     {
         let len = block.as_bytes().len() as u32;
+        if len == 0 {
+            return Ok(());
+        }
         push_back(alloc, &mut self.pieces, block)?;
         self.len += len;
         Ok(())
     }
 
-    /// Prepends a block, without copying its data. Returns `Memory` if an allocation fails; the
-    /// data are unchanged then.
+    /// Prepends a block, without copying its data; one without bytes adds no fragment. Returns
+    /// `Memory` if an allocation fails; the data are unchanged then.
     pub fn prepend(&mut self, alloc: Global, block: &'a Data) -> Result<(), Fault>
         requires { length self.old + length block.now ≤ DATA_BYTES }
         ensures joined { OnOk result (self.new ≡ block.now ++ self.old) }
         ensures memory { IsOkUnless result Fault.Memory }
         ensures unchanged { OnErr result (self.new ≡ self.old) }
+        ensures nothing { length block.now ≡ 0 → IsOk result }
     {
         let len = block.as_bytes().len() as u32;
+        if len == 0 {
+            return Ok(());
+        }
         push_front(alloc, &mut self.pieces, block)?;
         self.len += len;
         Ok(())

@@ -219,12 +219,16 @@ impl Acceptor {
 
     /// Accepts until `most` streams of tenants were handed over or another loop has failed, and
     /// then signals to the workers that no more come; or until a worker has signalled that the log
-    /// is full.
+    /// is full. Streams that came before the log began are accepted in any case, `ACCEPTS` of each
+    /// listener, so that logs that are full at once keep nobody waiting.
     ///
     /// Returns the errors of `poll_and_accept`, and `Poll` if a worker can't be woken.
     fn accept_all<R: Wait>(&mut self, rt: &R, mailboxes: &Mailboxes) -> Result<(), Halt>
         ensures { self.new.listeners ≡ self.old.listeners }
     {
+        if self.has_more {
+            self.poll_and_accept(rt, mailboxes)?;
+        }
         for _ in rt.forever() {
             let signal = mailboxes.of_acceptor.signal(rt);
             if self.is_done() || signal == Signal::Halted {

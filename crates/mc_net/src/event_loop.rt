@@ -17,7 +17,8 @@ ghost use Rattle.uc_worker.specs.declared.worker.Worker.{Worker};
 
 use crate::ended::Ended;
 use crate::halt::Halt;
-use crate::mailbox::{Mailboxes, Offer, Signal};
+use crate::mailbox::{Mailboxes, Signal};
+use crate::offers::Offer;
 use crate::publishing::{publish, publish_tallies};
 use mc_conn::PULL_BYTES;
 use mc_connections::{Admission, MOST_CONNECTIONS, PastConnections, ReadyQueue};

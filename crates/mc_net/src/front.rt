@@ -19,6 +19,7 @@ use crate::event_loop::EventLoop;
 use crate::halt::Halt;
 use crate::listener::{BoundListener, RoleListener};
 use crate::mailbox::{Mailbox, Mailboxes};
+use crate::offers::Offers;
 use crate::running::{first_failure, on_one_run, parted, run_all, threads_of};
 use crate::worker_thread::Returned;
 use mc_conn::Role;
@@ -66,14 +67,14 @@ pub struct Front {
     ghost known: { All (IsFor tenants) event_loops.items },
 }
 
-/// Returns a poll, and the mailbox that wakes it.
+/// Returns a poll, and the mailbox that wakes it, for arrivals of this many tenants.
 ///
-/// Returns `Poll` if either can't be made.
-fn new_poll<R: Net>(rt: &R, alloc: Global) -> Result<(Poll, Mailbox), Halt> {
+/// Returns `Memory` if memory runs out, and `Poll` if either can't be made.
+fn new_poll<R: Net>(rt: &R, alloc: Global, tenants: usize) -> Result<(Poll, Mailbox), Halt> {
     let Ok(poll) = Poll::new(rt) else {
         return Err(Halt::Poll);
     };
-    match Mailbox::new(alloc, poll.registry()) {
+    match Mailbox::new(Offers::new(alloc, tenants)?, poll.registry()) {
         Ok(mailbox) => Ok((poll, mailbox)),
         Err(_) => Err(Halt::Poll),
     }
@@ -100,7 +101,7 @@ fn new_event_loops<R: Net>(
     let mut event_loops = Vec::new(alloc);
     let mut publishers = publishers.into_iter();
     for _ in 0..settings.workers {
-        let (poll, mailbox) = new_poll(rt, alloc)?;
+        let (poll, mailbox) = new_poll(rt, alloc, settings.tenants)?;
         mailboxes.push(mailbox)?;
         event_loops.push(EventLoop::new(
             alloc,
@@ -160,7 +161,7 @@ impl Front {
         ensures faults { MatchResult result (λ _. ⊤) IsNetworkFault }
     {
         let (of_workers, event_loops) = new_event_loops(rt, alloc, settings, publishers)?;
-        let (poll, of_acceptor) = new_poll(rt, alloc)?;
+        let (poll, of_acceptor) = new_poll(rt, alloc, settings.tenants)?;
         let listeners = role_listeners(alloc, listeners)?;
         let acceptor = Acceptor::new(alloc, poll, listeners, settings.connections)?;
         let mailboxes = Mailboxes {

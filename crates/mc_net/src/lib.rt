@@ -28,6 +28,7 @@ pub mod handing;
 pub mod laws;
 pub mod listener;
 mod mailbox;
+mod offers;
 mod publishing;
 mod running;
 mod serving;

@@ -3,11 +3,10 @@ ghost use Rattle.std.specs.Prelude.{◌<◌, ⊤, OnOk, vec_len};
 
 use crate::halt::Halt;
 use crate::handing::Receive;
+use crate::offers::{Offer, Offers};
 use mc_connections::{Arrival, WAKER};
 use mio::net::TcpStream;
 use mio::{Registry, Waker};
-use std::alloc::Global;
-use std::collections::VecDeque;
 use std::io;
 use std::sync::{Mutex, Wait};
 
@@ -28,23 +27,15 @@ pub(crate) enum Signal {
     Halted,
 }
 
-/// An arrival, and how many workers have had no place for it.
-#[derive(Drop)]
-pub(crate) struct Offer {
-    pub(crate) arrival: Arrival<TcpStream>,
-    pub(crate) refusals: usize,
-}
-
 #[derive(Drop)]
 struct Inbox {
-    offers: VecDeque<Offer>,
+    offers: Offers,
     signal: Signal,
     // The loop has ended, or is about to, and looks for no more offers.
     has_left: bool,
 }
 
-/// A loop's queue and signal under a lock, and the waker of its poll. The acceptor's queue stays
-/// empty.
+/// A loop's offers and signal under a lock, and the waker of its poll. The acceptor has none.
 #[derive(Drop)]
 pub(crate) struct Mailbox {
     inbox: Mutex<Inbox>,
@@ -62,12 +53,12 @@ fn wake(waker: &Waker) -> Result<(), Halt> {
 }
 
 impl Mailbox {
-    /// Returns an empty mailbox for the loop whose poll has this registry.
+    /// Returns a mailbox with these offers for the loop whose poll has this registry.
     ///
     /// Returns the system's error if no waker can be made.
-    pub(crate) fn new(alloc: Global, registry: &Registry) -> io::Result<Mailbox> {
+    pub(crate) fn new(offers: Offers, registry: &Registry) -> io::Result<Mailbox> {
         let inbox = Inbox {
-            offers: VecDeque::new(alloc),
+            offers,
             signal: Signal::Starting,
             has_left: false,
         };
@@ -82,23 +73,23 @@ impl Mailbox {
         self.inbox.lock(rt).signal
     }
 
-    /// Takes the first offer out of the queue.
+    /// Takes the offer that comes next out of the queues.
     ///
-    /// Returns the signal as an error if the queue is empty or the loop is to end.
+    /// Returns the signal as an error if none waits or the loop is to end.
     pub(crate) fn next<R: Wait>(&self, rt: &R) -> Result<Offer, Signal> {
         let mut guard = self.inbox.lock(rt);
         let inbox = &mut *guard;
         if inbox.signal == Signal::Halted {
             return Err(Signal::Halted);
         }
-        match inbox.offers.pop_front() {
+        match inbox.offers.pop() {
             Some(offer) => Ok(offer),
             None => Err(inbox.signal),
         }
     }
 
-    /// Puts an offer into the queue, and wakes the loop; gives it back if the loop has ended. If
-    /// the queue can't grow the stream is closed.
+    /// Puts an offer into its tenant's queue, and wakes the loop; gives it back if the loop has
+    /// ended. If that queue is full or can't grow the stream is closed.
     ///
     /// Returns `Poll` if the loop can't be woken.
     fn put<R: Wait>(&self, rt: &R, offer: Offer) -> Result<Option<Offer>, Halt> {
@@ -109,19 +100,19 @@ impl Mailbox {
             if inbox.has_left {
                 return Ok(Some(offer));
             }
-            inbox.offers.push_back(offer)
+            inbox.offers.push(offer)
         };
-        if pushed.is_ok() {
+        if pushed {
             wake(&self.waker)?;
         }
         Ok(None)
     }
 
-    /// Puts an offer back, behind the others. If the queue can't grow the stream is closed.
+    /// Puts an offer back, behind the others of its tenant, as `put` does.
     pub(crate) fn put_back<R: Wait>(&self, rt: &R, offer: Offer) {
         let mut guard = self.inbox.lock(rt);
         let inbox = &mut *guard;
-        let _ = inbox.offers.push_back(offer);
+        let _ = inbox.offers.push(offer);
     }
 
     /// Notes that the loop ends, unless an offer has come by now. Returns whether it ends.
@@ -168,8 +159,8 @@ impl Receive<TcpStream> for Mailbox {
 
     /// Puts an arrival into the queue, and wakes the worker.
     ///
-    /// If the queue can't grow the stream is closed; no other is affected. Returns `Poll` if the
-    /// worker can't be woken.
+    /// If the queue is full or can't grow the stream is closed; no other is affected. Returns
+    /// `Poll` if the worker can't be woken.
     fn receive<R: Wait>(&self, rt: &R, arrival: Arrival<TcpStream>) -> Result<(), Halt>
         ensures { OnOk result ⊤ }
     {

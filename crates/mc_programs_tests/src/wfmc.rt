@@ -110,7 +110,8 @@ With --check wfmc says which word that is, and serves nothing.
 
 With --admin, whoever connects at ADDR may set a tenant's quotas: limit NAME ITEMS BYTES.
 With --metrics, whoever connects at ADDR may read numbers of all tenants: GET /metrics, by HTTP.
-Once the last log is full commands are refused until a restart; --generations 0 has no last one.
+Once the last log is full commands are refused until a restart; --generations 0 has no last one,
+as long as there is memory.
 
 Example, two tenants apart from each other on two ports:
   wfmc --generations 0 shop=127.0.0.1:11211,1000,1048576 blog=127.0.0.1:11212,1000,1048576

@@ -110,7 +110,8 @@ pub record ServesLast (settings : Configuration) (logs places : ℕ) (all : List
 
 -- Each connection that has ended was answered over all logs, and all that these workers have
 -- announced was asked for by one of them. All these were served one after another, from when there
--- was no connection until none was left: so each answer has an announcement and a place of its own.
+-- was no connection until none was left. (From that order it follows that no two answers have one
+-- announcement; no law says so.)
 pub record IsAnsweredBy (who : InTurn) (ended : List Connection) : Type 0 where
   pub answered : All (WasAnswered who.served) ended
   pub asked : HaveBeenAsked who.begun who.served ended

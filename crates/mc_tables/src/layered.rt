@@ -299,8 +299,8 @@ impl<'a> Storage for Layered<'a> {
     }
 
     fn clear(&mut self) {
-        self.over.clear();
-        self.base = None;
+        // A new map: to clear one takes as long as it once had entries, however few it has now.
+        *self = Layered::new(self.alloc, self.hashing);
     }
 }
 

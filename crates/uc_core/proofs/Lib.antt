@@ -13,6 +13,8 @@ mod Agreement
 mod Worlds
 pub mod OneWay
 mod Soon
+mod Marks
+mod OwnRound
 mod Sharp
 mod Later
 mod Each

@@ -1,176 +1,100 @@
--- As many places as there are workers aren't enough: of two workers, one looks for a command to
--- help before the other announces its own, which is then decided at the third place.
-use Rattle.std.proofs.Common.{◌≡◌, ℕ, zero, suc, List, [], ◌∷◌, length, None, inr, refl, ap, arith}
-use Rattle.std.proofs.lemmas.Option.{same_Some}
+-- A run of what the log shows is one of a core with a tenant: its announcements are of flushes. So
+-- the bound on places is sharp for runs of the core, where it is for the shown log (`OwnRound`).
+use Rattle.std.proofs.Common.{◌≡◌, ℕ, ◌<◌, ◌∙◌, List, [], ◌∷◌, length, map, None, slice_get, refl, sym, ap, subst, arith}
+use Rattle.std.proofs.lemmas.List.{length-replicate}
 use Rattle.mc_model.specs.declared.command.Command.TheVariants.{Flush}
-use Rattle.mc_model.specs.declared.id.Ticket.{Ticket}
 use Rattle.mc_model.specs.declared.request.Entry.{Entry}
 use Rattle.mc_model.specs.declared.settings.Limits.{Limits}
 use Rattle.mc_model.specs.declared.shown.LogSize.{LogSize}
-use Rattle.mc_model.specs.declared.shown.WorkerState.{WorkerState}
-use Rattle.mc_model.specs.Helping.{IsSoonDecided}
-use Rattle.mc_model.specs.Legal.{StandsBefore, ticket_of}
-use Rattle.mc_model.specs.Replay.{empty_tables}
+use Rattle.mc_model.specs.declared.shown.ShownState.{ShownState}
+use Rattle.mc_model.specs.Lawful.{LeadOn, ShownEvent, Step, announced_by, announces, looks, proposes, reads, stops}
 use Rattle.mc_model.specs.Settings.{Configuration}
-use Rattle.mc_model.specs.Shown.{announce, look, new_worker, propose, read}
-use Rattle.uc_core.specs.Core.{CoreState, ReplayState, core_size}
-use Rattle.uc_core.specs.Headline.{IsDecidedSoon, OfEveryRun}
-use Rattle.uc_core.specs.Run.{IsRun, Runs}
-use Rattle.uc_core.specs.Step.{CoreStep}
+use Rattle.mc_model.specs.Shown.{new_worker}
+use Rattle.uc_core.specs.Core.{CoreState, core_size, new_core}
+use Rattle.uc_core.specs.Headline.{IsDecidedSoon, AreOfSeveral, OfEveryRunWith}
+use Rattle.uc_core.specs.Run.{Runs}
+use Rattle.uc_core.specs.Step.{CoreStep, announced_entry, with_entry}
 use Rattle.uc_core.specs.declared.event.Event.{Event}
-use Rattle.uc_core.specs.declared.event.Event.TheVariants.{Announce, Look, Propose, Read}
-use Rattle.uc_core.proofs.Runs.{law_of}
-use Rattle.uc_core.proofs.Soon.{shows_run}
+use Rattle.uc_core.specs.declared.event.Event.TheVariants.{Announce, Look, Propose, Read, Stop}
+use Rattle.uc_core.proofs.OwnRound.{Late, late}
+use Rattle.uc_core.proofs.Soon.{shows_step}
 
-abbrev quotas : List Limits
-quotas = record { bytes = 1; items = 1 } ∷ []
+-- the core's event of the same name, and the entries after it
+abbrev event_of : ShownEvent → Event
+event_of (announces number) = Announce number 0 Flush
+event_of (reads number) = Read number
+event_of (looks number) = Look number
+event_of (proposes number) = Propose number
+event_of (stops number) = Stop number
 
-abbrev settings : Configuration
-settings = record { workers = 2; places = 4; tenants = quotas }
+abbrev entries_after : CoreState → ShownEvent → List (List Entry)
+entries_after old (announces number) = with_entry old.entries (announced_entry old number 0 Flush)
+entries_after old (reads number) = old.entries
+entries_after old (looks number) = old.entries
+entries_after old (proposes number) = old.entries
+entries_after old (stops number) = old.entries
 
-abbrev entry : ℕ → ℕ → Entry
-entry number command = record { ticket = ticket_of number command; tenant = 0; command = Flush }
+abbrev core_after : CoreState → ShownEvent → ShownState → CoreState
+core_after old event shown = record old { shown = shown; entries = entries_after old event }
 
-abbrev unreplayed : ReplayState
-unreplayed = record { replayed = 0; tables = empty_tables quotas }
+core_step : (old : CoreState) (event : ShownEvent) (shown : ShownState) → 0 < length old.openings → Step (core_size old) old.shown event shown →
+    CoreStep old (event_of event) (core_after old event shown) None
+core_step old (announces number) shown some step = (some, step, refl, refl)
+core_step old (reads number) shown some step = (step, refl, refl)
+core_step old (looks number) shown some step = (step, refl, refl)
+core_step old (proposes number) shown some step = (step, refl, refl)
+core_step old (stops number) shown some step = (step, refl, refl)
 
--- the core with these decided places, workers and entries
-abbrev core : List Ticket → WorkerState → WorkerState → List Entry → List Entry → CoreState
-core decided zero_is one_is of_zero of_one = record {
-  places = 4;
-  openings = quotas;
-  shown = record { decided = decided; workers = zero_is ∷ one_is ∷ [] };
-  entries = of_zero ∷ of_one ∷ [];
-  replays = unreplayed ∷ unreplayed ∷ [];
+-- the core shows this, in a log of this size, and has a tenant
+record Shows (size : LogSize) (shown : ShownState) (core : CoreState) : Type 0 where
+  sized : core_size core ≡ size
+  is : core.shown ≡ shown
+  some : 0 < length core.openings
+
+shown_step : (size : LogSize) (old new : ShownState) (event : ShownEvent) (core : CoreState) → Shows size old core → Step size old event new →
+    CoreStep core (event_of event) (core_after core event new) None
+shown_step size old new event core shows step = core_step core event new shows.some
+    (subst (λ (at : LogSize × ShownState). Step at.0 at.1 event new) (λ i. (sym shows.sized i, sym shows.is i)) step)
+
+shows_next : (size : LogSize) (old new : ShownState) (event : ShownEvent) (core : CoreState) → Shows size old core → Step size old event new →
+    Shows size new (core_after core event new)
+shows_next size old new event core shows step = record {
+  sized = (shows_step core (core_after core event new) (event_of event) None (shown_step size old new event core shows step)).size ∙ shows.sized;
+  is = refl;
+  some = shows.some;
 }
 
--- worker 1, which finds nothing to help at the first place, and at the second has its own turn
-abbrev waiting : WorkerState
-waiting = announce new_worker
+-- events of the shown log are a run that gives no reply
+shown_run : (size : LogSize) (events : List ShownEvent) (old new : ShownState) (core : CoreState) → Shows size old core → LeadOn size old events new →
+    (last : CoreState) × Shows size new last × Runs core (map event_of events) last []
+shown_run size [] old new core shows on = (core, record { sized = shows.sized; is = shows.is ∙ sym on; some = shows.some }, (refl, refl))
+shown_run size (event ∷ events) old new core shows (next, step, on) =
+    let rest = shown_run size events next new (core_after core event next) (shows_next size old next event core shows step) on in
+    (rest.0, rest.1, (core_after core event next, None, [], shown_step size old next event core shows step, rest.2, refl))
 
-abbrev marked : WorkerState
-marked = read 1 None waiting
+-- a core that is opened with two workers and more
+module _ (workers places : ℕ) (tenants : List Limits) (some : 0 < length tenants) where
+  abbrev settings : Configuration
+  settings = record { workers = workers; places = places; tenants = tenants }
 
-abbrev looking : WorkerState
-looking = look 0 0 marked
+  abbrev size : LogSize
+  size = record { workers = workers; places = places }
 
-abbrev decided : WorkerState
-decided = propose 1 None looking
+  shows_new : Shows size (new_core settings).shown (new_core settings)
+  shows_new = record { sized = λ i. record { workers = length-replicate workers new_worker i; places = places }; is = refl; some = some }
 
-abbrev waiting_again : WorkerState
-waiting_again = announce decided
+  sharp : Late size → OfEveryRunWith settings (λ core given. IsDecidedSoon workers core) → ⊥
+  sharp it all =
+      let first = shown_run size it.first_events (new_core settings).shown it.old (new_core settings) shows_new it.leads in
+      let core = first.0 in
+      let announced = core_after core (announces 0) it.announced in
+      let step = shown_step size it.old it.announced (announces 0) core first.1 it.announcing in
+      let rest = shown_run size it.later_events it.announced it.new announced (shows_next size it.old it.announced (announces 0) core first.1 it.announcing) it.goes_on in
+      let none : length core.shown.decided ≡ 0 = ap (λ (shown : ShownState). length shown.decided) first.1.is ∙ ap length it.none in
+      let many : length rest.0.shown.decided ≡ workers = ap (λ (shown : ShownState). length shown.decided) rest.1.is ∙ it.many in
+      let soon = all (map event_of it.first_events) core [] first.2 0 0 Flush announced rest.0 (map event_of it.later_events) [] step rest.2 (omega arith) in
+      it.without soon.0 (announced_by core.shown 0) (ap (λ (shown : ShownState). slice_get shown.decided soon.0) (sym rest.1.is) ∙ soon.2)
 
-abbrev marked_again : WorkerState
-marked_again = read 1 None waiting_again
-
-abbrev looking_again : WorkerState
-looking_again = look 1 2 marked_again
-
-abbrev decided_again : WorkerState
-decided_again = propose 1 None looking_again
-
-abbrev one_entry : List Entry
-one_entry = entry 1 0 ∷ []
-
-abbrev two_entries : List Entry
-two_entries = entry 1 0 ∷ entry 1 1 ∷ []
-
-abbrev one_place : List Ticket
-one_place = ticket_of 1 0 ∷ []
-
-abbrev two_places : List Ticket
-two_places = ticket_of 1 0 ∷ ticket_of 1 1 ∷ []
-
-abbrev before : CoreState
-before = core [] new_worker looking [] one_entry
-
-abbrev announced : CoreState
-announced = core [] waiting looking (entry 0 0 ∷ []) one_entry
-
-abbrev after : CoreState
-after = core two_places waiting decided_again (entry 0 0 ∷ []) two_entries
-
-abbrev first_events : List Event
-first_events = Announce 1 0 Flush ∷ Read 1 ∷ Look 1 ∷ []
-
-leads : IsRun settings first_events before []
-leads = (
-  core [] new_worker waiting [] one_entry,
-  None,
-  [],
-  (omega arith, (new_worker, refl, refl, omega arith, refl), refl, refl),
-  (
-    core [] new_worker marked [] one_entry,
-    None,
-    [],
-    ((waiting, refl, inr refl, omega arith, refl), refl, refl),
-    (
-      before,
-      None,
-      [],
-      ((marked, refl, refl, omega arith, (λ same. cc), refl), refl, refl),
-      (refl, refl),
-      refl,
-    ),
-    refl,
-  ),
-  refl,
-)
-
-announces : CoreStep before (Announce 0 0 Flush) announced None
-announces = (omega arith, (new_worker, refl, refl, omega arith, refl), refl, refl)
-
-abbrev later_events : List Event
-later_events = Propose 1 ∷ Announce 1 0 Flush ∷ Read 1 ∷ Look 1 ∷ Propose 1 ∷ []
-
-goes_on : Runs announced later_events after []
-goes_on = (
-  core one_place waiting decided (entry 0 0 ∷ []) one_entry,
-  None,
-  [],
-  ((looking, refl, refl, refl), refl, refl),
-  (
-    core one_place waiting waiting_again (entry 0 0 ∷ []) two_entries,
-    None,
-    [],
-    (omega arith, (decided, refl, refl, omega arith, refl), refl, refl),
-    (
-      core one_place waiting marked_again (entry 0 0 ∷ []) two_entries,
-      None,
-      [],
-      ((waiting_again, refl, inr refl, omega arith, refl), refl, refl),
-      (
-        core one_place waiting looking_again (entry 0 0 ∷ []) two_entries,
-        None,
-        [],
-        ((marked_again, refl, refl, omega arith, (λ same. cc), refl), refl, refl),
-        (
-          after,
-          None,
-          [],
-          ((looking_again, refl, refl, refl), refl, refl),
-          (refl, refl),
-          refl,
-        ),
-        refl,
-      ),
-      refl,
-    ),
-    refl,
-  ),
-  refl,
-)
-
--- worker 0's command isn't among the first two
-later : StandsBefore 2 (ticket_of 0 0) two_places → ⊥
-later (zero, below, at) = let wrong : 1 ≡ 0 = ap (λ (it : Ticket). it.worker) (same_Some (ticket_of 1 0) (ticket_of 0 0) at) in omega (arith, wrong)
-later (suc zero, below, at) = let wrong : 1 ≡ 0 = ap (λ (it : Ticket). it.worker) (same_Some (ticket_of 1 1) (ticket_of 0 0) at) in omega (arith, wrong)
-later (suc (suc place), below, at) = omega (arith, below)
-
-pub sharp_of_runs : OfEveryRun (λ core given. IsDecidedSoon (length core.shown.workers) core) → ⊥
-sharp_of_runs all = later (all settings first_events before [] leads 0 0 Flush announced after later_events [] announces goes_on (omega arith))
-
-pub sharp_of_events : ((n : LogSize) → IsSoonDecided n.workers n) → ⊥
-sharp_of_events all =
-    let on = shows_run announced after later_events [] goes_on in
-    later (all (core_size before) before.shown announced.shown after.shown 0 on.0 (law_of settings first_events before [] leads).reached announces.1 on.1 (omega arith))
+pub sharp_of_runs : (settings : Configuration) → AreOfSeveral settings → OfEveryRunWith settings (λ core given. IsDecidedSoon settings.workers core) → ⊥
+sharp_of_runs settings several =
+    sharp settings.workers settings.places settings.tenants several.2 (late (record { workers = settings.workers; places = settings.places }) several.0 several.1)

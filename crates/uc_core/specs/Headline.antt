@@ -22,12 +22,15 @@ use Rattle.uc_core.specs.Step.{CoreStep, actor, refusal}
 use Rattle.uc_core.specs.declared.event.Event.{Event}
 use Rattle.uc_core.specs.declared.event.Event.TheVariants.{Announce, Look, Propose, Read, Replay, Stop}
 
--- true of every run, whatever the settings and the events: of the core that it leads to, and of the
--- replies that it gives
-abbrev pub OfEveryRun : (CoreState → List Given → Type 0) → Type 0
-OfEveryRun Holds =
-    (settings : Configuration) (events : List Event) (core : CoreState) (given : List Given) →
+-- true of every run with these settings, whatever the events: of the core that it leads to, and of
+-- the replies that it gives
+abbrev pub OfEveryRunWith : Configuration → (CoreState → List Given → Type 0) → Type 0
+OfEveryRunWith settings Holds = (events : List Event) (core : CoreState) (given : List Given) →
     IsRun settings events core given → Holds core given
+
+-- true of every run, whatever the settings
+abbrev pub OfEveryRun : (CoreState → List Given → Type 0) → Type 0
+OfEveryRun Holds = (settings : Configuration) → OfEveryRunWith settings Holds
 
 -- "each announced command stands at most once in the log": no ticket stands at two places
 abbrev pub StandsOnce : CoreState → Type 0
@@ -124,6 +127,12 @@ IsDecidedSoon more old =
     length old.shown.decided + more ≤ length new.shown.decided →
     StandsBefore (length old.shown.decided + more)
     (ticket_of number (announced_by old.shown number)) new.shown.decided
+
+-- settings of two workers and more, of no fewer places than workers, and of a tenant. Without the
+-- first no command waits for another's, and without the others no bound says anything.
+abbrev pub AreOfSeveral : Configuration → Type 0
+AreOfSeveral settings = (1 < settings.workers) × (settings.workers ≤ settings.places)
+    × (0 < length settings.tenants)
 
 -- a command is announced in this state, and stands at this place in a later one
 pub record StandsLater (old : CoreState) (place : ℕ) : Type 0 where

@@ -6,16 +6,17 @@
 //! a table holding only its tenant's commands in log order, so runs whose logs agree for a tenant
 //! give equal replies. Each command is answered at most once, and one that was answered before
 //! another was announced stands before it.
-ghost use Rattle.std.specs.Prelude.{◌≡◌, ◌⊎◌, ◌↔◌, ℕ, ◌+◌, ◌<◌, [], ◌∷◌, length, true, Some, None};
+ghost use Rattle.std.specs.Prelude.{◌≡◌, ◌⊎◌, ◌↔◌, ℕ, ◌+◌, ◌<◌, ◌≤◌, [], ◌∷◌, length, true, Some, None};
 ghost use Rattle.mc_model.specs.declared.reply.Reply.{Reply};
-ghost use Rattle.mc_model.specs.Helping.{HelpingLaw, IsSoonDecided, LogLaw};
+ghost use Rattle.mc_model.specs.Helping.{HelpingLaw, IsSoonDecided, LogLaw, LooksAreUsed, MarksStay};
 ghost use Rattle.mc_model.specs.Lawful.{IsReached, turn};
+ghost use Rattle.mc_model.specs.Settings.{Configuration};
 ghost use Rattle.mc_model.specs.declared.shown.LogSize as size;
 ghost use Rattle.mc_model.specs.declared.shown.ShownState as state;
 ghost use Rattle.mc_model.specs.declared.shown.WorkerState as worker;
 ghost use Rattle.uc_core.specs.Asked.{AnnouncementsStand, ByEvents, FewProposals, IsOfSettings, ReplaysCount};
 ghost use Rattle.uc_core.specs.Core.{CoreState, core_size};
-ghost use Rattle.uc_core.specs.Headline.{AnswerAlike, AnsweredOnce, FaultsStand, IsDecidedSoon, KeepsRealTime, LogIsSound, OfEveryRun, OwnAreAnswered, RepliesAreAnswers, ReplicasAgree, StandsAfterDecided, StepsAreAlone, StepsAreEnabled, StepsAreOne, StepsLeadOn, StepsLearn, StopsForGood, TablesStand, WorkersAreFree};
+ghost use Rattle.uc_core.specs.Headline.{AnswerAlike, AnsweredOnce, AreOfSeveral, FaultsStand, IsDecidedSoon, KeepsRealTime, LogIsSound, OfEveryRun, OfEveryRunWith, OwnAreAnswered, RepliesAreAnswers, ReplicasAgree, StandsAfterDecided, StepsAreAlone, StepsAreEnabled, StepsAreOne, StepsLeadOn, StepsLearn, StopsForGood, TablesStand, WorkersAreFree};
 ghost use Rattle.uc_core.specs.Run.{given_by, replayed_by};
 ghost use Rattle.uc_core.specs.Step.{actor, is_quiet};
 ghost use Rattle.uc_core.specs.declared.event.Event.{Event};
@@ -41,12 +42,13 @@ pub fn laws()
     // Each table stands for its tenant's commands that its worker has replayed.
     ensures tables { OfEveryRun (λ core given. TablesStand core) }
 
-    // An announced command stands in the log soon, whether or not its worker has stopped: among the
-    // next places, of which there are one more than workers.
+    // Once one place more than there are workers was decided since a command was announced, that
+    // command has a place, whether or not its worker has stopped.
     ensures helped { OfEveryRun
         (λ core given. IsDecidedSoon (length core.shown.workers + 1) core) }
-    // As many as there are workers aren't enough.
-    ensures sharp { ¬ OfEveryRun (λ core given. IsDecidedSoon (length core.shown.workers) core) }
+    // As many as there are workers aren't enough, whatever the settings of two workers and more.
+    ensures sharp { (settings : Configuration) → AreOfSeveral settings →
+        ¬ OfEveryRunWith settings (λ core given. IsDecidedSoon settings.workers core) }
 
     // A command stands after all places that were decided when it was announced.
     ensures after { OfEveryRun (λ core given. StandsAfterDecided core) }
@@ -133,8 +135,12 @@ pub fn shown_states()
     ensures lawful { (n : size.LogSize) (s : state.ShownState) → IsReached n s → LogLaw n s }
     ensures helping { (n : size.LogSize) (s : state.ShownState) → IsReached n s → HelpingLaw n s }
     ensures soon { (n : size.LogSize) → IsSoonDecided (n.workers + 1) n }
-    // As many places as there are workers aren't soon enough.
-    ensures sharp { ¬ ((n : size.LogSize) → IsSoonDecided n.workers n) }
+    // As many places as there are workers aren't soon enough, whatever the size.
+    ensures sharp { (n : size.LogSize) → 1 < n.workers → n.workers ≤ n.places →
+        ¬ IsSoonDecided n.workers n }
+    // A mark stays until its worker announces again, and a look is used by one proposal.
+    ensures marks { (n : size.LogSize) → MarksStay n }
+    ensures looks { (n : size.LogSize) → LooksAreUsed n }
     // At each of the first places it is the turn of the worker with the place's number.
     ensures turns { (n : size.LogSize) (w : worker.WorkerState) → length w.learned < n.workers →
         turn n w ≡ length w.learned }

@@ -17,13 +17,18 @@ use Rattle.uc_core.specs.Run.{Given, Runs}
 use Rattle.uc_core.specs.declared.event.Event.{Event}
 use Rattle.uc_laws.specs.CoreRun.{core_over}
 
--- true of every run in which each worker begins with these tables, whatever the settings, the
+-- true of every run with these settings in which each worker begins with these tables, whatever the
 -- tables and the events: of the tables, of the core that the run leads to, and of the replies that
 -- it gives
-abbrev pub OfEveryRunOver : (List TableState → CoreState → List Given → Type 0) → Type 0
-OfEveryRunOver Holds = (settings : Configuration) (tables : List TableState) (events : List Event)
+abbrev pub OfEveryRunOverWith : Configuration → (List TableState → CoreState → List Given → Type 0)
+    → Type 0
+OfEveryRunOverWith settings Holds = (tables : List TableState) (events : List Event)
     (core : CoreState) (given : List Given) → Runs (core_over settings tables) events core given →
     Holds tables core given
+
+-- true of every such run, whatever the settings
+abbrev pub OfEveryRunOver : (List TableState → CoreState → List Given → Type 0) → Type 0
+OfEveryRunOver Holds = (settings : Configuration) → OfEveryRunOverWith settings Holds
 
 -- what the settings and the events say of a core is true of every run over tables, whatever these
 -- are

@@ -9,10 +9,10 @@ ghost use Rattle.mc_model.specs.Replay.{empty_tables};
 ghost use Rattle.mc_model.specs.Settings.{Configuration};
 ghost use Rattle.uc_core.specs.Asked.{AnnouncementsStand, FewProposals, IsOfSettings, ReplaysCount};
 ghost use Rattle.uc_core.specs.Core.{CoreState, core_size, new_core};
-ghost use Rattle.uc_core.specs.Headline.{AnswerAlike, AnsweredOnce, IsDecidedSoon, KeepsRealTime, LogIsSound, OwnAreAnswered, RepliesAreAnswers, ReplicasAgree, StandsAfterDecided, StepsAreEnabled, StopsForGood, TablesStand};
+ghost use Rattle.uc_core.specs.Headline.{AnswerAlike, AnsweredOnce, AreOfSeveral, IsDecidedSoon, KeepsRealTime, LogIsSound, OwnAreAnswered, RepliesAreAnswers, ReplicasAgree, StandsAfterDecided, StepsAreEnabled, StopsForGood, TablesStand};
 ghost use Rattle.uc_core.specs.Run.{Given};
 ghost use Rattle.uc_laws.specs.CoreRun.{core_over};
-ghost use Rattle.uc_laws.specs.Over.{AnswerAlikeOver, ByEventsOver, EachHasATable, OfEveryRunOver, RepliesAreAnswersOver, TablesStandOver};
+ghost use Rattle.uc_laws.specs.Over.{AnswerAlikeOver, ByEventsOver, EachHasATable, OfEveryRunOver, OfEveryRunOverWith, RepliesAreAnswersOver, TablesStandOver};
 
 /// What is true of every run over tables: of any settings, any tables, and any events of any
 /// workers in any order.
@@ -39,13 +39,14 @@ pub fn laws_over_tables()
     // worker has replayed.
     ensures tables { OfEveryRunOver (λ tables core given. TablesStandOver tables core) }
 
-    // An announced command stands in the log soon, whether or not its worker has stopped: among the
-    // next places, of which there are one more than workers.
+    // Once one place more than there are workers was decided since a command was announced, that
+    // command has a place, whether or not its worker has stopped.
     ensures helped { OfEveryRunOver
         (λ tables core given. IsDecidedSoon (length core.shown.workers + 1) core) }
-    // As many as there are workers aren't enough.
-    ensures sharp { ¬ OfEveryRunOver
-        (λ tables core given. IsDecidedSoon (length core.shown.workers) core) }
+    // As many as there are workers aren't enough, whatever the settings of two workers and more.
+    ensures sharp { (settings : Configuration) → AreOfSeveral settings →
+        ¬ OfEveryRunOverWith settings
+        (λ tables core given. IsDecidedSoon settings.workers core) }
 
     // A command stands after all places that were decided when it was announced.
     ensures after { OfEveryRunOver (λ tables core given. StandsAfterDecided core) }

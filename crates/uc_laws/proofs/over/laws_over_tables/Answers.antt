@@ -43,7 +43,7 @@ pub returns-clause-helped : goal.returns-clause-helped
 returns-clause-helped c = λ settings tables events core given run. is_soon (known c) settings tables events core given run
 
 pub returns-clause-sharp : goal.returns-clause-sharp
-returns-clause-sharp c = λ holds. c.laws.ensures.sharp (λ settings events core given run. holds settings (empty_tables settings.tenants) events core given run)
+returns-clause-sharp c = λ settings several holds. c.laws.ensures.sharp settings several (holds (empty_tables settings.tenants))
 
 pub returns-clause-after : goal.returns-clause-after
 returns-clause-after c = λ settings tables events core given run. is_after (known c) settings tables events core given run

@@ -1,0 +1,5 @@
+use Rattle.mc_connections.proofs.OverRounds.{others_take_one_turn_per_connection}
+use Rattle.mc_connections.proofs.laws.others_take_one_turn_per_connection.Goals as goal
+
+pub returns : goal.returns
+returns c = others_take_one_turn_per_connection c.a_key_waits_for_one_quantum_of_each_other_flow_per_key_up_to_it.ensures
