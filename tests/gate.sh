@@ -5,23 +5,35 @@
 # of wfmc by what its clients know, the manual pages by the programs' --help, installing and packages under temporary folders, the states of a
 # small core and its wrong definitions, that no crate cites another's proofs but those of a crate of lemmas, that the picture of the crates and
 # the generated documents are up to date, and that the compatibility suite has the rows of docs/PROTOCOL.md; and the self tests of scripts which
-# need neither a proof nor a compiler. Needs gcc. The last line is 'N passed, M failed', in total.
+# need neither a proof nor a compiler. Needs gcc. The last line is 'N passed, M failed', in total; the steps that failed stand before it once more.
 set -euo pipefail
 cd "$(dirname "$0")/.."
 
 folder=$(mktemp -d)
 trap 'rm -rf "$folder"' EXIT
 
-# Passes on all lines but the last, which is kept for the total.
-all_but_last() { awk -v last="$1" 'NR > 1 { print held; fflush() } { held = $0 } END { print held >last }'; }
+# Passes on all lines but the last, which is kept for the total, as those are that say what failed, for the end.
+all_but_last() {
+    awk -v last="$1" '/^(wrong|FAILED): / { print >(last ".failures") } NR > 1 { print held; fflush() } { held = $0 } END { print held >last }'
+}
 
 failed=0
 sums=()
+steps=()
 # Runs a command, whose last line is kept for the total.
 count() {
     local sum=$folder/${#sums[@]}
     sums+=("$sum")
+    steps+=("$*")
     "$@" 2>&1 | all_but_last "$sum" || failed=1
+}
+
+# Says again at the end, where a reader of a long log looks first, which steps failed, and in what.
+say_failures() {
+    local step
+    for step in "${!steps[@]}"; do
+        grep -qxE '[0-9]+ passed, 0 failed' "${sums[step]}" || { echo "failed: ${steps[step]}" && cat "${sums[step]}.failures" 2>/dev/null || true; }
+    done
 }
 
 passes() {
@@ -71,6 +83,7 @@ count passes python3 tools/promises.py --check
 count passes python3 tools/reading.py --check
 count passes python3 tools/compatibility/differences.py --check
 
+say_failures
 awk '{ passed += $1; failed += $3; if ($0 !~ /^[0-9]+ passed, [0-9]+ failed$/) { print; failed++ } }
      END { print passed + 0 " passed, " failed + 0 " failed"; exit (failed > 0) }' "${sums[@]}" || failed=1
 exit "$failed"

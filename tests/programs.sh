@@ -26,7 +26,7 @@ for golden in tests/rows/*/; do
     program=$(basename "$golden")
     for binary in "crates/$program/out/$program" "crates/$program/out/$program.by-rattle"; do
         if [ ! -x "$binary" ]; then
-            echo "$binary isn't built: make test builds it"
+            echo "wrong: $binary isn't built: make test builds it"
             failed=$((failed + 1))
             continue
         fi
@@ -36,7 +36,7 @@ for golden in tests/rows/*/; do
                 passed=$((passed + 1))
             else
                 failed=$((failed + 1))
-                echo "$binary on ${test%/}: $wrong"
+                echo "wrong: $binary on ${test%/}: $wrong"
             fi
         done
     done

@@ -50,7 +50,9 @@ reports_a_death() {
 #!/usr/bin/env python3
 import re, socket, sys
 with socket.create_server(("127.0.0.1", int(re.search(r"blog=127.0.0.1:(\d+)", " ".join(sys.argv))[1]))) as listener:
-    with listener.accept()[0] as stream:
+    with listener.accept()[0] as stream, stream.makefile("rb") as lines:
+        # All of what is asked first: the system would answer the rest with a reset.
+        next(line for line in lines if line == b"quit\r\n")
         stream.sendall(b"VERSION 1\r\n")
 sys.exit("it died")
 END
