@@ -43,7 +43,7 @@ package: kit ## proves and builds, and makes a Debian package, a tar file and th
 	@tools/prove.sh wfmc mc_stdin mc_schedule >&2
 	@tools/package.sh
 
-test: kit ## the gate: every proof from nothing, the gate's mutants, the tests, and the programs on their golden tests, over sockets and fuzzed
+test: kit ## the gate: every proof and mutant of the gate that hasn't passed on this machine as it stands, the tests, and the programs on their golden tests, over sockets and fuzzed
 	@tests/gate.sh
 
 mutants: kit ## mutation testing with the full set; CRATES="mc_items fair_queue/push_puts_first" for some crates or mutants
@@ -77,7 +77,7 @@ moving: kit ## tests moving a tenant from memcached, behind twemproxy, as docs/C
 # How many minutes the fuzzer takes, and as many the histories, each time; and after how many bytes of commands a log is closed at the third.
 MINUTES = 2
 LOG_BYTES = 4000
-fuzz: linearizability ## fuzzes wfmc over sockets for three times MINUTES (2), over one log and over logs closed by places and by bytes, with the memory that OPERATING says, after make linearizability
+fuzz: linearizability ## fuzzes wfmc over sockets for three times MINUTES (2), over one log and over logs closed by places and by bytes, the last two with the memory that OPERATING says, after make linearizability
 	@python3 tests/fuzz.py $$(($(MINUTES) * 60))
 	@python3 tests/fuzz.py $$(($(MINUTES) * 60)) --generations --within
 	@python3 tests/fuzz.py $$(($(MINUTES) * 60)) --generations --within --log-bytes $(LOG_BYTES)

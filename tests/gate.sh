@@ -1,11 +1,12 @@
 #!/usr/bin/env bash
-# The gate: the kit's own (every proof from nothing, the mutants of must-fail/, the tests, the programs on their stored runs), and then the
-# built programs on their golden tests, wfmc over sockets, whether its clients' histories are linearizable, a round of the fuzzer (these two
-# over one log, and over one after another), calls of workers with each allocation refused, the metrics of an example by an oracle and those
-# of wfmc by what its clients know, the manual pages by the programs' --help, installing and packages under temporary folders, the states of a
-# small core and its wrong definitions, that no crate cites another's proofs but those of a crate of lemmas, that the picture of the crates and
-# the generated documents are up to date, and that the compatibility suite has the rows of docs/PROTOCOL.md; and the self tests of scripts which
-# need neither a proof nor a compiler. Needs gcc. The last line is 'N passed, M failed', in total; the steps that failed stand before it once more.
+# The gate: the kit's own (every proof and every mutant of must-fail/ that hasn't passed on this machine as it stands, the tests, the programs
+# on their stored runs), and then the built programs on their golden tests, wfmc over sockets, whether its clients' histories are
+# linearizable, a round of the fuzzer (these two over one log, and over one after another), calls of workers with each allocation refused, the
+# metrics of an example by an oracle and those of wfmc by what its clients know, the manual pages by the programs' --help, installing and
+# packages under temporary folders, the states of a small core and its wrong definitions, that no crate cites another's proofs but those of a
+# crate of lemmas, that the picture of the crates and the generated documents are up to date, and that the compatibility suite has the rows of
+# docs/PROTOCOL.md; and the self tests of scripts which need neither a proof nor a compiler. Needs gcc. The last line is 'N passed, M failed',
+# in total; the steps that failed stand before it once more.
 set -euo pipefail
 cd "$(dirname "$0")/.."
 

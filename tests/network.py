@@ -11,7 +11,7 @@ An administrator, whose quotas are in force at every worker, and whom no tenant 
 next to a crowd of another tenant's, and clients who are served by another worker where theirs has no place (network_places.py). And clients that
 nobody may forget: the process is stopped until many have connected, asked or left, and then goes on, while a worker is busy, or descriptors are
 scarce. Where no client is left, everything is given back, and no thread wakes. Clients that send more behind their last request, and read late, get
-all their replies, at the end of a run too; where more leave than close, those who left first are cut off; and where a wait for events fails
+all their replies, at the end of a run too; where more leave than close, others are cut off for them; and where a wait for events fails
 (tests/fail_wait.c, which needs gcc), everything ends. Connections have the system's keepalive.
 Prints a line for each failure; the last line is 'N passed, M failed'.
 """
@@ -664,8 +664,8 @@ def check_kept(what, server, clients, first):
 
 
 def check_oldest_streams():
-    """Clients leave one after another, and don't close: a worker that has as many streams as it keeps closes that of the one who left first. Where one
-    of the others closes, the next who leaves takes its room."""
+    """Clients leave one after another, and don't close: a worker that has as many streams as it keeps closes one for each, place by place, which in this
+    order is that of the one who left first. Where one of the others closes, the next who leaves takes its room."""
     with Server(PROGRAM, ["--workers", "1"], {"a": LARGE}) as server:
         clients = [leave(server) for _ in range(80)]
         check_kept("the last 64 streams are kept", server, clients, 16)

@@ -3,9 +3,9 @@
 # should have; the checksums of the sources hold; lintian, where installed, finds no error. A program that is older than a text is refused, and
 # one that asks for a later C library than the image has; the commit is one with changes where a document was changed. The package is installed
 # by dpkg under a temporary root, with a database of its own; wfmc serves from there by the words of its defaults file and under the limits of its
-# unit; an upgrade keeps a defaults file that was changed, and a running wfmc; purging leaves nothing. The image's files are put together as
-# etc/Containerfile has them, with Debian's bash and prlimit, and its command and health check run there, in namespaces of their own, where the
-# kernel grants them.
+# unit, with as many descriptors as the machine grants; an upgrade keeps a defaults file that was changed, and a running wfmc; purging leaves
+# nothing. The image's files are put together as etc/Containerfile has them, with Debian's bash and prlimit, and its command and health check run
+# there, in namespaces of their own, where the kernel grants them.
 # Nothing is written elsewhere. The last line is 'N passed, M failed'.
 set -euo pipefail
 cd "$(dirname "$0")/.."
@@ -104,6 +104,9 @@ start_installed() {
     words=$(. "$root$(sed -n 's/^EnvironmentFile=-//p' "$unit")" && sed -E 's/:[0-9]+,/:0,/g' <<<"$WFMC_WORDS")
     space=$(sed -n 's/^LimitAS=//p' "$unit" | numfmt --from=iec)
     files=$(sed -n 's/^LimitNOFILE=//p' "$unit")
+    [ -n "$files" ] || return 1
+    # As many descriptors as this machine grants, where these are fewer.
+    prlimit --nofile="$files" true 2>/dev/null || files=$(ulimit -Hn)
     # A user without rights, where this is root; and the words are cut at blanks, as systemd does.
     # shellcheck disable=SC2086
     prlimit --as="$space" --nofile="$files" --core=0 setpriv --no-new-privs "${nobody[@]}" "$root$command" $words >"$folder/ready" 2>&1 &
