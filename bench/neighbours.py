@@ -168,6 +168,7 @@ CASES = {
     "400 connections of depth 16": Loaded("400", "16"),
     "8 connections with items of 1 MB, half of them sets": Loaded("-d", "1000000", "-g", "50", "-k", "20", "8", "1"),
     f"a get of {NAMES:,} names": Rounds(gets_many_names, before=lambda client: client.line(a_set(b"n", 100))),
+    f"a get of {NAMES:,} names, each of 256 bytes": Rounds(gets_many_names, before=lambda client: client.line(a_set(b"n", 256))),
     f"{SHORT_LINES:,} lines of a byte at once": Rounds(short_lines),
     "appends to an item of 1 MiB": Rounds(appends, before=lambda client: client.line(a_set(b"long", MEBIBYTE - 1000))),
     FLUSHES: Rounds(fills_and_flushes),

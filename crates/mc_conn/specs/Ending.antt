@@ -151,6 +151,11 @@ LogsInTime {before} {after} takes =
     (count_logged before.conn.role takes.taken.requests ≡ 0)
     ⊎ (between : Scene) × LogsLast before between after takes
 
+-- turns without a fault that leave commands to the next log
+pub record TakesUntil (before after : Scene) : Type 0 where
+  pub takes : Takes before after
+  pub in_time : LogsInTime takes
+
 -- A turn without a fault that leaves commands to the next log: one that is to be logged isn't taken
 -- if the worker's log is closing, and the state is then `Full`.
 pub record TurnsUntil (before after : Scene) (state : State) : Type 0 where

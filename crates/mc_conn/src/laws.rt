@@ -20,7 +20,7 @@ ghost use Rattle.mc_conn.specs.declared.conn.Role.TheVariants.{Tenant};
 ghost use Rattle.mc_conn.specs.declared.conn.TheConstants.{PULL_BYTES, QUEUE_BYTES, TURN_REQUESTS};
 ghost use Rattle.mc_conn.specs.declared.queue.TheConstants.{KEPT_BYTES};
 ghost use Rattle.mc_conn.specs.Alone.{IsAlone, IsAloneOver, commands_of, first_mark, owed, owed_after};
-ghost use Rattle.mc_conn.specs.Ending.{AnswersAtMost, LogsInTime, Pulls, PullsFew, PullsLate, Stops, TakesFewRequests};
+ghost use Rattle.mc_conn.specs.Ending.{AnswersAtMost, LogsInTime, Pulls, PullsFew, PullsLate, Stops, StopsUntil, TakesFewRequests, TakesUntil};
 ghost use Rattle.mc_conn.specs.Held.{Holding, IsRead};
 ghost use Rattle.mc_conn.specs.Owed.{IsPlaced, IsTurnedAway, Mark, Owes, mark_of};
 ghost use Rattle.mc_conn.specs.Tallying.{HasCounted, HasCountedTo};
@@ -111,6 +111,15 @@ pub fn turns_add_up()
     ensures sends { (fault : Fault) (a b : Scene) → Stops a b fault →
         (more : List ℕ) × Pushes a.streams.output b.streams.output more
         × (waits a.streams.output.events ≤ waits b.streams.output.events) }
+{}
+
+/// So do turns that leave commands to the next log: in all of them together no request was logged at
+/// a worker whose log was closing, and if a fault stopped the last one none met it there.
+pub fn turns_until_the_next_log_add_up()
+    ensures none { (a : Scene) → TakesUntil a a }
+    ensures through { (a b c : Scene) → TakesUntil a b → TakesUntil b c → TakesUntil a c }
+    ensures stops { (fault : Fault) (a b c : Scene) → TakesUntil a b → StopsUntil b c fault →
+        StopsUntil a c fault }
 {}
 
 /// A turn that may pull little takes little: the bytes that come in it are at most as many as it may

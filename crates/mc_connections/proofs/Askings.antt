@@ -180,7 +180,7 @@ step_later until before after old new state taken later opened had =
     ⊎_elim
     (λ served. step_taking before after old new taken later.role opened had served)
     (λ stopped. step_stopping before after old new taken later.role opened had stopped.0 stopped.1)
-    later.served
+    later.served.how
 
 -- what was announced stays announced
 announced_on : (before after : Worker) → Continues before after → (number tenant : ℕ) (command : _) → slice_get (announced_of before) number ≡ Some (own_sighting before number tenant command) →

@@ -406,7 +406,7 @@ all_on laws past old new on list all = λ i d inside. answered_on laws past old 
 
 later_onward : (until : Bool) (before after : Worker) (old new : Connection) (state : State) → IsServedLater until before after old new state → Continues before after
 later_onward until before after old new state later =
-    ⊎_elim (λ served. served.taken.onward) (λ stopped. stopped.1.breaks.taken.onward) later.served
+    ⊎_elim (λ served. served.taken.onward) (λ stopped. stopped.1.breaks.taken.onward) later.served.how
 
 going_on : (until : Bool) (before after : Worker) (old new : Connection) (state : State) → state ≢ Closed → IsServedLater until before after old new state → ¬ (HasEnded new.conn)
 going_on until before after old new Closed isnt later = absurd (isnt refl)
@@ -419,7 +419,7 @@ later_lives until past before after old new state isnt later lives =
     ⊎_elim
     (λ served. lives_taking past before after old new later.role lives served)
     (λ stopped. absurd (going_on until before after old new state isnt later (inl stopped.1.shut)))
-    later.served
+    later.served.how
 
 later_answered : (until : Bool) (past : List Worker) (before after : Worker) (old new : Connection) → IsServedLater until before after old new Closed → Lives past before old → AnsweredBy past after new
 later_answered until past before after old new later lives =
@@ -428,7 +428,7 @@ later_answered until past before after old new later lives =
     let still = lives_taking past before after old new later.role lives served in
     ⊎_elim (λ closed. let no : false ≡ true = sym still.going ∙ closed in cc) (answered_done past after new still) later.stands)
     (λ stopped. answered_stopping past before after old new later.role lives stopped.0 stopped.1)
-    later.served
+    later.served.how
 
 -- there was none, it stays, or it has ended
 none_there : (until : Bool) (past : List Worker) (before after : Standing) (new : Option Connection) → new ≡ None → after.worker ≡ before.worker →

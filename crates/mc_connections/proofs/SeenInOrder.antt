@@ -62,7 +62,7 @@ module _ (until : Bool) (past : List Worker) (saw asked answered : Standing) (se
   pub sees_onward : Continues saw.worker answered.worker
   sees_onward =
       continues_through-value.it saw.worker asked.worker answered.worker sees.later
-      (served_onward (scene_of sees.old asked.worker) (scene_of sees.new answered.worker) sees.turns.served)
+      (served_onward (scene_of sees.old asked.worker) (scene_of sees.new answered.worker) sees.turns.served.how)
 
   pub seen_first : (announced_number sees.seen.answer < announced_number sees.asks) × (history_place sees.seen.answer < history_place sees.asks)
   seen_first =

@@ -8,7 +8,7 @@ use Rattle.mc_conn.specs.declared.conn.Conn.{Conn}
 use Rattle.mc_conn.specs.declared.conn.State.{State}
 use Rattle.mc_conn.specs.declared.conn.State.TheVariants.{Closed, Idle, Busy, Full}
 use Rattle.mc_conn.specs.declared.conn.TheConstants.{PULL_BYTES}
-use Rattle.mc_conn.specs.Ending.{AwaitsLog, IsDone, IsState, PullsOnce, Stops, logs_next}
+use Rattle.mc_conn.specs.Ending.{AwaitsLog, IsDone, IsState, LogsInTime, PullsOnce, Stops, StopsUntil, TakesUntil, logs_next}
 use Rattle.mc_conn.specs.Owed.{demand_of, is_logged}
 use Rattle.mc_conn.specs.Turn.{Scene, Takes, scene}
 use Rattle.mc_model.specs.declared.fault.Fault.{Fault}
@@ -19,7 +19,7 @@ use Rattle.uc_worker.specs.Going.{Continues}
 use Rattle.uc_worker.specs.declared.worker.Worker.{Worker}
 use Rattle.mc_connections.specs.declared.connection.Connection.{Connection}
 use Rattle.mc_connections.specs.declared.connections.Connections.{Connections}
-use Rattle.mc_connections.specs.Serving.{Becomes, ChangesAt, HasEnded, IsServedLater, Stands, Stays, TakesOrStops, TurnsOnce, connection_at}
+use Rattle.mc_connections.specs.Serving.{Becomes, ChangesAt, HasEnded, IsServed, IsServedLater, Stands, Stays, StopsOnce, TakesOrStops, TurnsOnce, connection_at}
 
 true_or_false : (is : Bool) → (is ≡ true) ⊎ (is ≡ false)
 true_or_false true = inl refl
@@ -35,12 +35,49 @@ TakeOn = (a b c : Scene) → Takes a b → Takes b c → Takes a c
 abbrev pub StopLater : Type 0
 StopLater = (fault : Fault) (a b c : Scene) → Takes a b → Stops b c fault → Stops a c fault
 
+-- the same laws of turns that leave commands to the next log
+pub record UntilNextLog : Type 0 where
+  pub none : (a : Scene) → TakesUntil a a
+  pub through : (a b c : Scene) → TakesUntil a b → TakesUntil b c → TakesUntil a c
+  pub stops : (fault : Fault) (a b c : Scene) → TakesUntil a b → StopsUntil b c fault → StopsUntil a c fault
+
+-- turns, which leave commands to the next log if the first argument is true
+pub record TakesFor (until : Bool) (before after : Scene) : Type 0 where
+  pub takes : Takes before after
+  pub in_time : until ≡ true → LogsInTime takes
+
+pub nothing_for : TakesNothing → UntilNextLog → (until : Bool) (a : Scene) → TakesFor until a a
+nothing_for takes_self laws true a = let none = laws.none a in record { takes = none.takes; in_time = λ is. none.in_time }
+nothing_for takes_self laws false a = record { takes = takes_self a; in_time = λ is. let no : false ≡ true = is in cc }
+
+pub through_for : TakeOn → UntilNextLog → (until : Bool) (a b c : Scene) → TakesFor until a b → TakesFor until b c → TakesFor until a c
+through_for takes_trans laws true a b c one two =
+    let both = laws.through a b c (record { takes = one.takes; in_time = one.in_time refl }) (record { takes = two.takes; in_time = two.in_time refl }) in
+    record { takes = both.takes; in_time = λ is. both.in_time }
+through_for takes_trans laws false a b c one two = record { takes = takes_trans a b c one.takes two.takes; in_time = λ is. let no : false ≡ true = is in cc }
+
+-- a fault after turns that went well, or none
+pub stopped_for : StopLater → UntilNextLog → (until : Bool) (fault : Fault) (a b c : Scene) → TakesFor until a b → StopsOnce until b c fault → IsServed until a c
+stopped_for stops_later laws true fault a b c one two =
+    let both = laws.stops fault a b c (record { takes = one.takes; in_time = one.in_time refl }) two in
+    record { how = inr (fault, both.stops); in_time = λ is. both.in_time }
+stopped_for stops_later laws false fault a b c one two = record { how = inr (fault, stops_later fault a b c one.takes two); in_time = λ is. let no : false ≡ true = is in cc }
+
+pub served_for : (until : Bool) (a b : Scene) → TakesFor until a b → IsServed until a b
+served_for until a b all = record { how = inl all.takes; in_time = all.in_time }
+
+-- what a fault leaves of a turn, whichever kind of turn it is
+pub stopped_by : (until : Bool) (a b : Scene) (fault : Fault) → StopsOnce until a b fault → Stops a b fault
+stopped_by true a b fault stopped = stopped.stops
+stopped_by false a b fault stopped = stopped
+
 -- a closed connection stays as it is
-takes_same : TakesNothing → (a : Scene) (conn : Conn) (worker : Worker) (streams : Streams) → conn ≡ a.conn → worker ≡ a.worker → streams ≡ a.streams → Takes a (scene conn worker streams)
-takes_same takes_self a conn worker streams one two three =
-    subst (λ (conn : Conn). Takes a (scene conn worker streams)) (sym one)
-    (subst (λ (worker : Worker). Takes a (scene a.conn worker streams)) (sym two)
-    (subst (λ (streams : Streams). Takes a (scene a.conn a.worker streams)) (sym three) (takes_self a)))
+same_for : TakesNothing → UntilNextLog → (until : Bool) (a : Scene) (conn : Conn) (worker : Worker) (streams : Streams) → conn ≡ a.conn → worker ≡ a.worker → streams ≡ a.streams →
+    TakesFor until a (scene conn worker streams)
+same_for takes_self laws until a conn worker streams one two three =
+    subst (λ (conn : Conn). TakesFor until a (scene conn worker streams)) (sym one)
+    (subst (λ (worker : Worker). TakesFor until a (scene a.conn worker streams)) (sym two)
+    (subst (λ (streams : Streams). TakesFor until a (scene a.conn a.worker streams)) (sym three) (nothing_for takes_self laws until a)))
 
 not_ended : (b : Scene) → b.conn.is_closed ≡ false → ¬ (IsDone b.conn) → ¬ (HasEnded b.conn)
 not_ended b opened going = ⊎_elim (λ (closed : b.conn.is_closed ≡ true). let no : true ≡ false = sym closed ∙ opened in cc) going
@@ -56,8 +93,9 @@ turned : (until : Bool) (a b : Scene) (state : State) → TurnsOnce until a b st
 turned true a b state turns = (turns.takes, turns.state_is)
 turned false a b state turns = (turns.takes, turns.state_is)
 
-pub taken_by : (until : Bool) (a b : Scene) (state : State) → TurnsOnce until a b state → Takes a b
-taken_by until a b state turns = (turned until a b state turns).0
+taken_by : (until : Bool) (a b : Scene) (state : State) → TurnsOnce until a b state → TakesFor until a b
+taken_by true a b state turns = record { takes = turns.takes; in_time = λ is. turns.in_time }
+taken_by false a b state turns = record { takes = turns.takes; in_time = λ is. let no : false ≡ true = is in cc }
 
 stands_going : (until : Bool) → TakesNothing → (a b : Scene) (state : State) → (state ≡ Full → until ≡ true) → b.conn.is_closed ≡ false → PullsOnce a.streams.input b.streams.input → TurnsOnce until a b state → Stands until a b state
 stands_going until takes_self a b Closed full opened once turns = inr (turned until a b Closed turns).1
@@ -79,14 +117,14 @@ met_fault false result fault bad closed = refl
 met_fault true result fault bad closed = let good = closed refl in cc
 
 -- a turn without a fault
-module _ (until : Bool) (takes_self : TakesNothing) (a : Scene) (conn : Conn) (worker : Worker) (streams : Streams) (state : State) (full : state ≡ Full → until ≡ true)
+module _ (until : Bool) (takes_self : TakesNothing) (laws : UntilNextLog) (a : Scene) (conn : Conn) (worker : Worker) (streams : Streams) (state : State) (full : state ≡ Full → until ≡ true)
     (once : PullsOnce a.streams.input streams.input)
     (opened : a.conn.is_closed ≡ false → TurnsOnce until a (scene conn worker streams) state)
     (closed : a.conn.is_closed ≡ true → (state ≡ Closed) × (conn ≡ a.conn) × (worker ≡ a.worker) × (streams ≡ a.streams)) where
-  pub taken_turn : Takes a (scene conn worker streams)
+  pub taken_turn : TakesFor until a (scene conn worker streams)
   taken_turn =
       ⊎_elim
-      (λ (is : a.conn.is_closed ≡ true). let same = closed is in takes_same takes_self a conn worker streams same.1 same.2 same.3)
+      (λ (is : a.conn.is_closed ≡ true). let same = closed is in same_for takes_self laws until a conn worker streams same.1 same.2 same.3)
       (λ (is : a.conn.is_closed ≡ false). taken_by until a (scene conn worker streams) state (opened is))
       (true_or_false a.conn.is_closed)
 
@@ -95,7 +133,7 @@ module _ (until : Bool) (takes_self : TakesNothing) (a : Scene) (conn : Conn) (w
       ⊎_elim
       (λ (is : a.conn.is_closed ≡ true).
       subst (Stands until a (scene conn worker streams)) (sym (closed is).0) (inl (ap (λ (conn : Conn). conn.is_closed) (closed is).1 ∙ is)))
-      (λ (is : a.conn.is_closed ≡ false). stands_going until takes_self a (scene conn worker streams) state full ((taken_by until a (scene conn worker streams) state (opened is)).shut ∙ is) once (opened is))
+      (λ (is : a.conn.is_closed ≡ false). stands_going until takes_self a (scene conn worker streams) state full ((taken_by until a (scene conn worker streams) state (opened is)).takes.shut ∙ is) once (opened is))
       (true_or_false a.conn.is_closed)
 
 pub served_onward : (a b : Scene) → TakesOrStops a b → Continues a.worker b.worker
@@ -103,14 +141,6 @@ served_onward a b =
     ⊎_elim
     (λ (takes : Takes a b). takes.taken.onward)
     (λ (stopped : (fault : Fault) × Stops a b fault). stopped.1.breaks.taken.onward)
-
--- turns after turns without a fault
-pub served_later : TakeOn → StopLater → (a b c : Scene) → Takes a b → TakesOrStops b c → TakesOrStops a c
-served_later takes_trans stops_later a b c one two =
-    ⊎_elim
-    (λ (takes : Takes b c). inl (takes_trans a b c one takes))
-    (λ (stopped : (fault : Fault) × Stops b c fault). inr (stopped.0, stops_later stopped.0 a b c one stopped.1))
-    two
 
 stays_later : (until : Bool) → TakeOn → (a b c : Scene) (state : State) → Takes a b → Stays until b c state → Stays until a c state
 stays_later until takes_trans a b c state takes stays = record {
@@ -121,11 +151,11 @@ stays_later until takes_trans a b c state takes stays = record {
   last = stays.last;
 }
 
-pub stands_later : (until : Bool) → TakeOn → (a b c : Scene) (state : State) → Takes a b → TakesOrStops b c → Stands until b c state → Stands until a c state
-stands_later until takes_trans a b c Closed one two stands = stands
-stands_later until takes_trans a b c Idle one two stands = stays_later until takes_trans a b c Idle one stands
-stands_later until takes_trans a b c Busy one two stands = stays_later until takes_trans a b c Busy one stands
-stands_later until takes_trans a b c Full one two stands = (stands.0, stays_later until takes_trans a b c Full one stands.1)
+pub stands_later : (until : Bool) → TakeOn → (a b c : Scene) (state : State) → Takes a b → Stands until b c state → Stands until a c state
+stands_later until takes_trans a b c Closed takes stands = stands
+stands_later until takes_trans a b c Idle takes stands = stays_later until takes_trans a b c Idle takes stands
+stands_later until takes_trans a b c Busy takes stands = stays_later until takes_trans a b c Busy takes stands
+stands_later until takes_trans a b c Full takes stands = (stands.0, stays_later until takes_trans a b c Full takes stands.1)
 
 -- a turn pulls once at most
 pub once_few : (before after : Inflow) → PullsOnce before after → length after.events ≤ 1 + length before.events

@@ -1,5 +1,5 @@
 -- Whose turn it is among the connections that wait.
-use Rattle.std.proofs.Common.{◌≡◌, ◌⊎◌, ◌∙◌, ◌≤◌, ℕ, Bool, Err, List, MatchResult, None, Ok, OnOk, Option, Result, Some, false, inl, inr, length, subst, sym, ⊎_elim}
+use Rattle.std.proofs.Common.{◌≡◌, ◌⊎◌, ◌∙◌, ◌≤◌, ℕ, Bool, Err, List, None, Ok, OnOk, Option, Result, Some, false, inl, inr, length, subst, sym, ⊎_elim}
 use Rattle.std.specs.Prelude.{slice_get, slice_set, unwrap_or}
 use Rattle.fair_queue.specs.Turns.{Charges, GivesFirst, IsIdle, IsPushed, QueueState}
 use Rattle.mc_conn.specs.declared.conn.State.{State}
@@ -57,7 +57,3 @@ waits_with_more state tenant key old new more waits =
 pub on_ok : {T E P Q : Type 0} (result : Result T E) → OnOk result P → (P → Q) → OnOk result Q
 on_ok (Ok done) holds so = so holds
 on_ok (Err failed) holds so = holds
-
-pub on_err : {T E : Type 0} (result : Result T E) (P : T → Type 0) (Q R : E → Type 0) → ((error : E) → Q error → R error) → MatchResult result P Q → MatchResult result P R
-on_err (Ok done) P Q R so holds = holds
-on_err (Err failed) P Q R so holds = so failed holds

@@ -50,8 +50,8 @@ becomes_onward : (until : Bool) (before after : Standing) (state : State) (old n
     Becomes (IsServedLater until before.worker after.worker) (after.worker ≡ before.worker) state before.connections.ended.connections after.connections.ended.connections old new →
     Continues before.worker after.worker
 becomes_onward until before after state None new (gone, still, idle, ended) = subst (Continues before.worker) (sym still) (continues_self-value.it before.worker)
-becomes_onward until before after state (Some old) (Some new) (later, isnt, ended) = served_onward _ _ later.served
-becomes_onward until before after state (Some old) None (last, ended, later, closed) = served_onward _ _ later.served
+becomes_onward until before after state (Some old) (Some new) (later, isnt, ended) = served_onward _ _ later.served.how
+becomes_onward until before after state (Some old) None (last, ended, later, closed) = served_onward _ _ later.served.how
 
 step_onward : (until : Bool) (before after : Standing) → TakesIn before after ⊎ ServesOne until before after ⊎ KeepsUp before after → Continues before.worker after.worker
 step_onward until before after =

@@ -159,4 +159,4 @@ pub record SeesThenAsks (until : Bool) (past : List Worker)
   pub turns : IsServedLater until asked.worker answered.worker old new state
   pub which : ℕ
   pub asks : IsAnsweredAmong answered.worker old.conn.role (mark_of asked.worker)
-      (requests_taken turns.served) (owed_for_them turns.served) which
+      (requests_taken turns.served.how) (owed_for_them turns.served.how) which

@@ -1,4 +1,5 @@
 -- What becomes of the connections of an event loop; this project's profile.
+use mathlib.Core.Logic.{inl, inr}
 use Rattle.std.specs.Prelude.{◌≡◌, ◌≢◌, ◌⊎◌, ℕ, ◌+◌, ◌-◌, ◌*◌, ◌^◌, ◌≤◌, Bool, true, false, List, [], ◌∷◌, length, min, option_and_then, Option, Some, None}
 use Rattle.mio.specs.declared.net.stream.TcpStream.{TcpStream}
 use Rattle.slab.specs.Slab.{Updates, get}
@@ -10,7 +11,7 @@ use Rattle.mc_conn.specs.declared.conn.Role.TheVariants.{Admin, Tenant}
 use Rattle.mc_conn.specs.declared.conn.State.{State}
 use Rattle.mc_conn.specs.declared.conn.TheConstants.{PULL_BYTES, TURN_REQUESTS}
 use Rattle.mc_conn.specs.declared.conn.State.TheVariants.{Closed, Idle, Busy, Full}
-use Rattle.mc_conn.specs.Ending.{AnswersAtMost, IsDone, PullsOnce, Stops, Turns, TurnsUntil}
+use Rattle.mc_conn.specs.Ending.{AnswersAtMost, BreaksInTime, IsDone, LogsInTime, PullsOnce, Stops, StopsUntil, Turns, TurnsUntil}
 use Rattle.mc_conn.specs.Held.{nothing_held}
 use Rattle.mc_conn.specs.Owed.{IsAmong}
 use Rattle.mc_conn.specs.Tallying.{HasCounted, HasCountedTo}
@@ -92,6 +93,17 @@ abbrev pub TakesOrStops : Scene → Scene → Type 0
 TakesOrStops before after =
     Takes before after ⊎ (fault : Fault) × Stops before after fault
 
+-- no request was logged, or met the fault as it was to be, at a worker whose log was closing
+abbrev pub IsInTime : {before after : Scene} → TakesOrStops before after → Type 0
+IsInTime {before} {after} (inl takes) = LogsInTime takes
+IsInTime {before} {after} (inr (fault, stops)) = BreaksInTime stops.breaks
+
+-- A connection was served over its streams, and commands were left to the next log if the first
+-- argument is true: then each that was taken was logged in time, also where a fault stopped this.
+pub record IsServed (until : Bool) (before after : Scene) : Type 0 where
+  pub how : TakesOrStops before after
+  pub in_time : until ≡ true → IsInTime how
+
 -- a fault has closed the connection, or nothing is left to be done
 abbrev pub HasEnded : Conn → Type 0
 HasEnded conn = (conn.is_closed ≡ true) ⊎ IsDone conn
@@ -100,6 +112,11 @@ HasEnded conn = (conn.is_closed ≡ true) ⊎ IsDone conn
 abbrev pub TurnsOnce : Bool → Scene → Scene → State → Type 0
 TurnsOnce true = TurnsUntil
 TurnsOnce false = Turns
+
+-- what a fault leaves of such a turn
+abbrev pub StopsOnce : Bool → Scene → Scene → Fault → Type 0
+StopsOnce true = StopsUntil
+StopsOnce false = Stops
 
 -- turns without a fault that haven't ended the connection, the last of which returned this state
 pub record Stays (until : Bool) (before after : Scene) (state : State) : Type 0 where
@@ -132,7 +149,7 @@ pub record IsServedLater (until : Bool) (before after : Worker) (old new : Conne
     (state : State) : Type 0 where
   pub stream : new.stream ≡ old.stream
   pub role : new.conn.role ≡ old.conn.role
-  pub served : TakesOrStops (scene_of old before) (scene_of new after)
+  pub served : IsServed until (scene_of old before) (scene_of new after)
   pub stands : Stands until (scene_of old before) (scene_of new after) state
   pub few : HasAtMost TURNS old.received.events new.received.events
   pub reads : MovesAtMost (TURNS * PULL_BYTES) old.received.events new.received.events

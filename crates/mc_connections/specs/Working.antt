@@ -43,9 +43,10 @@ pub record KeepsUp (before after : Standing) : Type 0 where
   pub connections : after.connections ≡ before.connections
 
 -- Arrivals were admitted and connections served, and the worker caught up, one after another. If the
--- first argument is true, the last turn of each serve after which the connection stays logged
--- commands in time; of the turn before it that isn't said. The connections that are left, those that have ended, and their tapes are
--- genuine: each is what one of the first connections, or an arrival, became by being served.
+-- first argument is true, commands were left to the next log, so that no serve logged one at a
+-- worker whose log was closing. The connections that are left, those that have ended, and their
+-- tapes are genuine: each is what one of the first connections, or an arrival, became by being
+-- served.
 pub data Works (until : Bool) (first : Standing) : Standing → Type 0 where
   begins : Works until first first
   goes_on : (between last : Standing) → Works until first between →

@@ -1,12 +1,12 @@
 //! How a worker admits connections and serves them.
 ghost use Rattle.std.specs.Prelude.{◌≡◌, ◌⊎◌, ◌*◌, ◌<◌, ◌≤◌, ℕ, true, false, length, IfOk, MatchResult, Ok, Some};
 ghost use Rattle.fair_places.specs.Places.{held_by};
-ghost use Rattle.mc_conn.specs.Ending.{AnswersAtMost, PullsOnce, Stops};
+ghost use Rattle.mc_conn.specs.Ending.{AnswersAtMost, PullsOnce};
 ghost use Rattle.mc_conn.specs.Owed.{FitsLog};
 ghost use Rattle.mc_conn.specs.Tallying.{HasCounted, HasCountedTo};
 ghost use Rattle.mc_conn.specs.Turn.{scene};
 ghost use Rattle.mc_conn.specs.declared.conn.TheConstants.{PULL_BYTES, TURN_REQUESTS};
-ghost use Rattle.mc_connections.specs.Serving.{HasAtMost, HasComeTo, IsServedLater, IsTallied, MovesAtMost, SpendsAt, Stands, TakesOrStops, TurnsOnce, answered_between, moved_between, scene_of, tenant_at};
+ghost use Rattle.mc_connections.specs.Serving.{HasAtMost, HasComeTo, IsServed, IsServedLater, IsTallied, MovesAtMost, SpendsAt, Stands, StopsOnce, TurnsOnce, answered_between, moved_between, scene_of, tenant_at};
 ghost use Rattle.mc_connections.specs.Tallying.{TalliesAt};
 ghost use Rattle.mc_connections.specs.Working.{ServesAt, standing};
 ghost use Rattle.mc_connections.specs.declared.pace.TheConstants.{SHARED};
@@ -73,7 +73,8 @@ fn turn_once<I: Input, O: Output, G: Gate>(
         (TurnsOnce terms.until_done
         (scene conn.old worker.old (both (I.tells input.old) (O.tells output.old)))
         (scene conn.new worker.new (both (I.tells input.new) (O.tells output.new))))
-        (Stops (scene conn.old worker.old (both (I.tells input.old) (O.tells output.old)))
+        (StopsOnce terms.until_done
+        (scene conn.old worker.old (both (I.tells input.old) (O.tells output.old)))
         (scene conn.new worker.new (both (I.tells input.new) (O.tells output.new)))) }
     ensures pulls { PullsOnce (I.tells input.old) (I.tells input.new) }
     ensures answers { AnswersAtMost TURN_REQUESTS conn.old conn.new }
@@ -106,7 +107,7 @@ fn turns<I: Input, O: Output + Spends, G: Gate>(
     tally: &mut Tally,
 ) -> State
     requires { FitsLog conn.old.role worker.old }
-    ensures served { TakesOrStops
+    ensures served { IsServed terms.until_done
         (scene conn.old worker.old (both (I.tells input.old) (O.tells output.old)))
         (scene conn.new worker.new (both (I.tells input.new) (O.tells output.new))) }
     ensures stands { Stands terms.until_done
@@ -124,6 +125,7 @@ fn turns<I: Input, O: Output + Spends, G: Gate>(
 {
     // The laws from which the clauses on all turns follow.
     mc_conn::laws::turns_add_up();
+    mc_conn::laws::turns_until_the_next_log_add_up();
     mc_conn::laws::counts_add_up();
     let last = conn.answered().saturating_add(terms.requests);
     for _ in 0..TURNS {

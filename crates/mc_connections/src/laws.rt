@@ -1,10 +1,13 @@
 //! What the definitions say of connections, log after log, and the numbers of this profile. A law
 //! is the contract of a function with an empty body, or with calls of the laws from which it
 //! follows.
+ghost use mathlib.Core.Logic.{inl, inr};
 ghost use Rattle.std.specs.Prelude.{◌≡◌, ◌≢◌, ◌↔◌, ◌⊎◌, ◌+◌, ◌*◌, ◌^◌, ◌<◌, ◌≤◌, [], ◌∷◌, ◌++◌, All, Bool, None, Option, Some, false, true, ℕ, List, length, slice_get};
 ghost use Rattle.fair_places.specs.Places.{MayTake, held_by, with_held};
 ghost use Rattle.fair_queue.specs.Turns.{IsFair, IsPushed};
-ghost use Rattle.mc_conn.specs.Owed.{Mark, Owes, demand_of, is_logged};
+ghost use Rattle.mc_conn.specs.Ending.{BreaksInTime, LogsLast, Stops};
+ghost use Rattle.mc_conn.specs.Owed.{Mark, Owes, count_logged, demand_of, is_logged};
+ghost use Rattle.mc_conn.specs.Turn.{Scene, Takes};
 ghost use Rattle.mc_conn.specs.declared.conn.Role.{Role};
 ghost use Rattle.mc_conn.specs.declared.conn.Role.TheVariants.{Admin, Tenant};
 ghost use Rattle.mc_conn.specs.declared.conn.State.{State};
@@ -18,7 +21,7 @@ ghost use Rattle.mc_connections.specs.InTurn.{HaveServedInTurn, InTurn};
 ghost use Rattle.mc_connections.specs.Life.{OwesInLogs, OwesInParts, WasAnswered, came_of, sent_of};
 ghost use Rattle.mc_connections.specs.Round.{HaveCome, IsOfConnection, MakesRound, Queued, ServesNext, TellsEnd};
 ghost use Rattle.mc_connections.specs.Seen.{AreAnsweredFrom, IsAnsweredAmong, IsThere, SeesThenAsks, SplitsAtLast, WasSent, announced_number, history_place};
-ghost use Rattle.mc_connections.specs.Serving.{HasComeTo, IsServedLater, answered_between, moved_between, tenant_of};
+ghost use Rattle.mc_connections.specs.Serving.{HasComeTo, IsServedLater, answered_between, moved_between, scene_of, tenant_of};
 ghost use Rattle.mc_connections.specs.Sharing.{OnlyTheTurnGoesOn, OthersTakeOneTurnEach, OthersTakeOneTurnPerConnection, RoundsAreServes};
 ghost use Rattle.mc_connections.specs.Tallying.{tally_place};
 ghost use Rattle.mc_connections.specs.Waiting.{LetsWait, WaitsInLine, cost_of, flow_of, short_at};
@@ -33,6 +36,7 @@ ghost use Rattle.mc_connections.specs.declared.connections.TheConstants.{MOST_OF
 ghost use Rattle.mc_connections.specs.declared.places.TheConstants.{MOST_ADMINS, MOST_CONNECTIONS};
 ghost use Rattle.mc_connections.specs.declared.waiting.TheConstants.{BYTES_OF_A_REQUEST, BYTES_OF_A_SERVE, QUANTUM, ROUND};
 ghost use Rattle.mc_connections.specs.declared.waiting.Waiting.{Waiting};
+ghost use Rattle.mc_model.specs.declared.fault.Fault.{Fault};
 ghost use Rattle.mc_model.specs.declared.request.Request.{Request};
 ghost use Rattle.mio.specs.Event.{event_token};
 ghost use Rattle.mio.specs.declared.event.event.Event.{Event};
@@ -141,6 +145,22 @@ pub fn what_a_serve_takes()
     ensures bytes { (until : Bool) (before after : Worker) (old new : Connection) (state : State) →
         IsServedLater until before after old new state →
         length (came_of new) ≤ 32768 + length (came_of old) }
+{}
+
+/// Where commands are left to the next log, a serve logs none at a worker whose log is closing: of
+/// those that it logs all but the last are taken before a moment at which it isn't closing yet, and
+/// that one after it. Where a fault ends the connection it is so of the one that met it too.
+pub fn a_serve_logs_in_time()
+    ensures taken { (before after : Worker) (old new : Connection) (state : State)
+        (later : IsServedLater true before after old new state)
+        (takes : Takes (scene_of old before) (scene_of new after)) →
+        later.served.how ≡ inl takes →
+        (count_logged old.conn.role takes.taken.requests ≡ 0)
+        ⊎ (between : Scene) × LogsLast (scene_of old before) between (scene_of new after) takes }
+    ensures stopped { (before after : Worker) (old new : Connection) (state : State)
+        (later : IsServedLater true before after old new state) (fault : Fault)
+        (stops : Stops (scene_of old before) (scene_of new after) fault) →
+        later.served.how ≡ inr (fault, stops) → BreaksInTime stops.breaks }
 {}
 
 /// While a connection waits in a flow and none of that flow is served, the serves of each other

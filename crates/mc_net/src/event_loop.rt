@@ -165,6 +165,7 @@ impl EventLoop {
     /// Admits the arrivals in the mailbox of this number, `ARRIVALS` at most. One for which there is
     /// no place goes back behind the others while some connections haven't been served yet, since
     /// their clients may have left: so nobody is refused a place for one that has never been served.
+    /// It is the last one then, so that a round looks through the connections once at most.
     ///
     /// Returns the signal that follows them, or `None` if more may be left. Returns `Poll` if
     /// another worker can't be woken.
@@ -188,7 +189,7 @@ impl EventLoop {
             };
             if self.ready.connections.holds_back(offer.arrival.role()) {
                 mailbox.put_back(rt, offer);
-                continue;
+                return Ok(None);
             }
             self.admit(rt, mailboxes, number, offer)?;
         }

@@ -19,7 +19,7 @@ use Rattle.mc_server.proofs.Numbered.{asked_roles}
 use Rattle.mc_server.proofs.TenantLists.{mapped}
 use Rattle.mc_server.specs.Listeners.{AreAsked, CountsFrom, StopsListening, asked_at, clients_asked, listener_if, roles_asked}
 use Rattle.mc_server.specs.Crew.{AreWorkersOf, number_of}
-use Rattle.mc_server.specs.Network.{IsReady, IsServed, StopsRun, StopsServing, names_of}
+use Rattle.mc_server.specs.Network.{IsReady, EndsServing, StopsRun, StopsServing, names_of}
 use Rattle.mc_server.specs.Logs.{WereServed}
 use Rattle.mc_server.specs.NetworkTexts.{done_line, ready_text}
 use Rattle.mc_server.specs.Checking.{ChecksWords}
@@ -51,7 +51,7 @@ serving_halts tells settings most fault text listening before after is halts =
 -- how many places were used was printed after the listeners' lines, or a fault came
 pub finished : (settings : Configuration) (most number : ℕ) → WereServed settings most number → (result : Result (Unit {0}) Fault) (listening : List Listening) (before now after : Outflow) →
     IsReady listening before now → MatchResult result (λ _. PushesAll (done_line number) now after) (FailsToPush (done_line number) now after) →
-    MatchResult result (λ _. IsServed settings most listening before after) (StopsServing settings most listening before after)
+    MatchResult result (λ _. EndsServing settings most listening before after) (StopsServing settings most listening before after)
 finished settings most number were (Ok nothing) listening before now after ready done =
     (number, were, all_more (ready_text listening) (done_line number) before now after ready done)
 finished settings most number were (Err fault) listening before now after ready fails =

@@ -30,8 +30,8 @@ IsReady listening before after = PushesAll (ready_text listening) before after
 
 -- it was printed which listener is at which address, and then, when all had been served over at
 -- most this many logs, how many places were used in total
-abbrev pub IsServed : Configuration → ℕ → List Listening → Outflow → Outflow → Type 0
-IsServed settings most listening before after =
+abbrev pub EndsServing : Configuration → ℕ → List Listening → Outflow → Outflow → Type 0
+EndsServing settings most listening before after =
     (number : ℕ) × WereServed settings most number
     × PushesAll (ready_text listening ++ done_line number) before after
 
@@ -77,7 +77,7 @@ pub record FailsToServe (asked : NetworkAsked)
 pub record ServesTenants (asked : NetworkAsked) (before after : Outflow) : Type 0 where
   pub listening : List Listening
   pub is_told : AllZip IsListeningFor (listeners_asked asked) listening
-  pub served : IsServed (settings_asked asked) asked.generations listening before after
+  pub served : EndsServing (settings_asked asked) asked.generations listening before after
 
 -- what the words ask for was served, or help or the version was shown
 abbrev pub WfmcEndsWell : List Text → Outflow → Outflow → Type 0

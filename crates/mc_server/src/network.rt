@@ -4,7 +4,7 @@ ghost use Rattle.mc_net.specs.Beginning.{HaltsServing};
 ghost use Rattle.mc_net.specs.Running.{IsNewLoop};
 ghost use Rattle.mc_server.specs.Listeners.{AreListenersOf, IsMadeFor};
 ghost use Rattle.mc_server.specs.Logs.{IsFrontOf, WereServedAt};
-ghost use Rattle.mc_server.specs.Network.{WfmcEnds, IsServed, ServesTenants, StopsRun, StopsServing, stop_line};
+ghost use Rattle.mc_server.specs.Network.{WfmcEnds, EndsServing, ServesTenants, StopsRun, StopsServing, stop_line};
 ghost use Rattle.mc_server.specs.NetworkWords.{IsChecked, served_by, settings_asked};
 ghost use Rattle.mc_stream.specs.Pushing.{PushesOrFails};
 
@@ -156,7 +156,7 @@ where
     requires bound { AreListenersOf (served_by service.now) bound }
     ensures outcome { let settings = settings_asked (served_by service.now) in
         MatchResult result
-        (λ _. IsServed settings service.now.generations bound.entry.told.items
+        (λ _. EndsServing settings service.now.generations bound.entry.told.items
         (O.tells output.old) (O.tells output.new))
         (StopsServing settings service.now.generations bound.entry.told.items
         (O.tells output.old) (O.tells output.new)) }

@@ -3,16 +3,17 @@
 use Rattle.std.proofs.Common.{◌≡◌, ◌⊎◌, ◌*◌}
 use Rattle.mc_conn.specs.Ending.{AnswersAtMost}
 use Rattle.mc_conn.specs.Tallying.{HasCounted}
-use Rattle.mc_conn.specs.Turn.{Takes, scene}
+use Rattle.mc_conn.specs.Turn.{scene}
 use Rattle.mc_conn.specs.declared.conn.State.TheVariants.{Busy}
 use Rattle.mc_conn.specs.declared.conn.TheConstants.{PULL_BYTES, TURN_REQUESTS}
 use Rattle.mc_stream.specs.Stream.{both}
 use Rattle.mc_connections.specs.Serving.{HasAtMost, MovesAtMost, Stands}
+use Rattle.mc_connections.proofs.Servings.{TakesFor}
 use Rattle.mc_connections.proofs.connecting.turns.Given as goal
 
 abbrev pub invariant-loop : goal.invariant-loop
 invariant-loop g l = record {
-  going : Takes (scene l.fn.conn l.fn.worker (both (g.I.Input.tells l.fn.input) (g.O.Output.tells l.fn.output)))
+  going : TakesFor l.fn.terms.until_done (scene l.fn.conn l.fn.worker (both (g.I.Input.tells l.fn.input) (g.O.Output.tells l.fn.output)))
       (scene l.conn l.worker (both (g.I.Input.tells l.input) (g.O.Output.tells l.output)));
   stands : (l.counter ≡ 0)
       ⊎ Stands l.fn.terms.until_done (scene l.fn.conn l.fn.worker (both (g.I.Input.tells l.fn.input) (g.O.Output.tells l.fn.output)))
