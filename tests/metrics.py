@@ -3,14 +3,16 @@
 
 What a scrape shows is held against what the clients know: items, bytes, quotas, connections, commands by kind, hits, misses and refusals of each of
 three tenants behind idle ones, the connections of each of 16 workers, which log is served, how many bytes it keeps, by each kind of command, and
-whether a worker lags; and while nobody scrapes no processor is used. Then scrapes as fast as they come while clients are answered as ever, more
-connections than there are places for, requests that are slow, huge or none, and one that does nothing, which is closed after ten seconds. And the
-words: an address that is taken, a tenant named metrics. A live scrape and the rules of etc/ are held against promtool (Debian's package prometheus;
-PROMTOOL names another) where it is installed, and it is said where it isn't.
+whether a worker lags; and while nobody scrapes no processor is used. Then scrapes as fast as they come while clients are answered as ever, requests
+that are slow, huge or none, one that does nothing, which is closed after ten seconds, many more connections than there are places for, and floods of
+requests, next to which a scrape is answered soon and little of a processor is used. And the words: an address that is taken, a tenant named metrics.
+A live scrape and the rules of etc/ are held against promtool (Debian's package prometheus; PROMTOOL names another) where it is installed, and it is
+said where it isn't.
 Prints a line for each failure; the last line is 'N passed, M failed'.
 """
 
 import concurrent.futures
+import contextlib
 import functools
 import os
 import re
@@ -37,6 +39,10 @@ PLACES = 500
 # After how many places an idle worker is woken (docs/OPERATING.md).
 STRIDE = 4096
 MOST = 16
+# In how many seconds a scrape is answered next to any strangers.
+SOON = 2
+# How much of a processor a flood may take: twice the listener's part, for a measure that is off.
+MOST_OF_A_PROCESSOR = 0.25
 SAMPLE = re.compile(r'([a-z_]+)(?:\{([a-z_]+="[^"]*"(?:,[a-z_]+="[^"]*")*)\})? ([0-9.]+)')
 results = Results()
 check = results.check
@@ -455,7 +461,7 @@ def closing_of(scraper):
 
 
 def check_strangers():
-    """Requests that are slow, huge or none, and more connections than there are places for."""
+    """Requests that are slow, huge or none, and many more connections than there are places for."""
     with Server(PROGRAM, METRICS, {"a": LARGE}) as server, concurrent.futures.ThreadPoolExecutor(1) as pool:
         # In a thread of its own, so that the others don't count for the time.
         idle = pool.submit(closing_of, Scraper(server))
@@ -495,23 +501,69 @@ def check_odd_requests(server):
     half.close()
 
 
+def timed_scrape(server, what):
+    """A scrape over a connection of its own, which is to be answered soon."""
+    begun = time.monotonic()
+    try:
+        status = Scraper(server).get()[0]
+    except OSError as error:
+        status = repr(error)
+    seconds = time.monotonic() - begun
+    check(what, status == "HTTP/1.1 200 OK" and seconds < SOON, f"{status} after {seconds:.2f} seconds")
+
+
 def check_crowd(server):
-    """As many connections as there are places for, and one more; the tenant's item is there."""
+    """As many connections as there are places for, and more; the tenant's item is there."""
     crowd = [Scraper(server) for _ in range(MOST)]
     for scraper in crowd:
         check("one of sixteen", scraper.get()[0] == "HTTP/1.1 200 OK")
-    late = Scraper(server, seconds=0.5)
-    late.send(b"GET /metrics HTTP/1.1\r\nHost: wfmc\r\n\r\n")
-    try:
-        answered = late.reply()[0]
-    except TimeoutError:
-        answered = "waits"
-    check("the seventeenth waits", answered == "waits", answered)
-    crowd[3].close()
-    late.socket.settimeout(5)
-    check("and has its turn", late.reply()[0] == "HTTP/1.1 200 OK")
+    timed_scrape(server, "the seventeenth is answered")
+    crowd[0].socket.settimeout(SOON)
+    check("the one that was idle longest gives its place", closing_of(crowd[0])[0])
+    check("the others keep theirs", all(scraper.get()[0] == "HTTP/1.1 200 OK" for scraper in crowd[1:]))
+    strangers = [Scraper(server) for _ in range(MOST)]
+    timed_scrape(server, "a scrape next to sixteen that send nothing")
+    strangers += [Scraper(server) for _ in range(200)]
+    timed_scrape(server, "a scrape behind two hundred that send nothing")
+    for stranger in strangers[-MOST:]:
+        # A part of a head is no request.
+        stranger.send(b"GET /metrics HTTP/1.1\r\n")
+    timed_scrape(server, "a scrape next to sixteen that send half a request")
     with server.client("a") as client:
         check("a tenant's client beside a crowd", client.ask(b"get k\r\n", b"END\r\n") == b"VALUE k 0 1\r\nx\r\nEND\r\n")
+    for scraper in crowd + strangers:
+        scraper.close()
+
+
+def floods(server, request, stop):
+    """Sends requests as fast as the server takes them, over one connection after another, and drops what is answered."""
+    while not stop.is_set():
+        try:
+            with contextlib.closing(Scraper(server, seconds=0.2)) as scraper:
+                while not stop.is_set():
+                    scraper.send(request)
+                    scraper.has_more()
+                    scraper.held = b""
+        except OSError:
+            # It was closed in the middle, or takes nothing for a moment.
+            pass
+
+
+def check_flood():
+    """Requests without end over as many connections as there are places for. 64 tenants make each answer a long one."""
+    head, odd = b"HEAD /metrics HTTP/1.1\r\nHost: wfmc\r\n\r\n", b"GET /none HTTP/1.1\r\nHost: wfmc\r\n\r\n"
+    with Server(PROGRAM, METRICS, behind(63, {"a": LARGE})) as server:
+        for what, request in (("heads", 50 * head), ("a path that isn't there", 50 * odd), ("one at a time", head)):
+            stop = threading.Event()
+            with concurrent.futures.ThreadPoolExecutor(MOST) as pool:
+                flooding = [pool.submit(floods, server, request, stop) for _ in range(MOST)]
+                try:
+                    used = used_in_a_second(server)
+                    timed_scrape(server, f"a scrape in a flood: {what}")
+                finally:
+                    stop.set()
+            check(f"who floods: {what}", all(flood.exception() is None for flood in flooding))
+            check(f"a flood takes little of a processor: {what}", used < MOST_OF_A_PROCESSOR, f"{used:.2f} seconds of a processor in one")
 
 
 def check_words():
@@ -548,6 +600,7 @@ def main():
     check_starved()
     check_full_speed()
     check_strangers()
+    check_flood()
     results.finish()
 
 

@@ -7,7 +7,10 @@
 pub use boards::Boards;
 pub use scraper::{Scraper, Stop, new_scraper};
 
+mod answering;
 pub mod boards;
 mod memory;
+mod resting;
 pub mod scraper;
 mod visit;
+mod yielding;

@@ -1,11 +1,13 @@
 //! The loop of the listener for scrapes.
 ghost use Rattle.std.specs.Prelude.{◌≡◌, ◌⊎◌, IfErr};
 
+use crate::answering::Answering;
 use crate::boards::Boards;
+use crate::resting::rest_after;
 use crate::visit::Visit;
-use mc_metrics::Scrape;
+use crate::yielding::place_for_new;
 use mc_model::Fault;
-use mio::net::TcpListener;
+use mio::net::{TcpListener, TcpStream};
 use mio::{Events, Interest, Poll, Token, Waker};
 use std::alloc::Global;
 use std::fs::Files;
@@ -14,9 +16,10 @@ use std::io::ErrorKind;
 use std::net::Net;
 use std::sync::Wait;
 use std::sync::atomic::{AtomicBool, Ordering};
+use std::thread;
 use std::time::{Clock, Duration, Instant};
 
-/// How many connections there are at most. Others wait at the listener.
+/// How many connections there are at most, and how many streams are accepted in a round.
 const MOST_VISITS: usize = 16;
 
 /// After how many seconds a connection is closed, whatever it does.
@@ -60,6 +63,8 @@ pub struct Scraper {
     visits: Vec<Option<Visit>>,
     // The listener failed, and is to be asked again even if no event reports it.
     is_troubled: bool,
+    // More streams may wait than the last round has accepted.
+    is_crowded: bool,
     // By these the fields of requests are hashed, whose names clients choose.
     keys: RandomState,
     alloc: Global,
@@ -100,6 +105,7 @@ pub fn new_scraper<R: Net>(
         events: Events::with_capacity(alloc, EVENTS)?,
         visits,
         is_troubled: false,
+        is_crowded: false,
         keys,
         alloc,
     };
@@ -122,29 +128,42 @@ fn is_ready(events: &Events, place: usize, visit: &Option<Visit>) -> bool {
 }
 
 impl Scraper {
-    /// Accepts the streams that wait, as far as there are places for them. A stream that can't be
-    /// registered is closed. A listener that fails is noted to be asked again.
+    /// Gives a stream this place, whose connection is closed if there is one. A stream that can't
+    /// be registered is closed, and the listener is noted to be asked again.
+    fn admit(&mut self, stream: TcpStream, place: usize, now: Instant) {
+        let Some(visit) = self.visits.get_mut(place) else {
+            return;
+        };
+        *visit = None;
+        let mut stream = stream;
+        let both = Interest::READABLE | Interest::WRITABLE;
+        let registry = self.poll.registry();
+        if registry.register(&mut stream, Token(place), both).is_ok() {
+            *visit = Some(Visit::new(self.alloc, self.keys, stream, now));
+        } else {
+            self.is_troubled = true;
+        }
+    }
+
+    /// Accepts the streams that wait, as many as there are places at most. Where none is free the
+    /// connection is closed that was idle longest, so that whoever sends a request soon is answered
+    /// soon, however many others send none. A listener that fails is noted to be asked again.
     fn accept_waiting(&mut self, now: Instant) {
         self.is_troubled = false;
-        for (place, visit) in self.visits.iter_mut().enumerate() {
-            if visit.is_some() {
-                continue;
-            }
-            let mut stream = match self.listener.accept() {
-                Ok((stream, _)) => stream,
+        self.is_crowded = false;
+        for _ in 0..MOST_VISITS {
+            let Some(place) = place_for_new(&self.visits, now) else {
+                break;
+            };
+            match self.listener.accept() {
+                Ok((stream, _)) => self.admit(stream, place, now),
                 Err(error) => {
-                    self.is_troubled = error.kind() != ErrorKind::WouldBlock;
+                    self.is_troubled |= error.kind() != ErrorKind::WouldBlock;
                     return;
                 }
-            };
-            let both = Interest::READABLE | Interest::WRITABLE;
-            let registry = self.poll.registry();
-            if registry.register(&mut stream, Token(place), both).is_ok() {
-                *visit = Some(Visit::new(self.alloc, self.keys, stream, now));
-            } else {
-                self.is_troubled = true;
             }
         }
+        self.is_crowded = true;
     }
 
     /// Closes the connections that have had their time.
@@ -161,33 +180,17 @@ impl Scraper {
         }
     }
 
-    /// Serves the connections that are ready, all by the numbers that are shown now.
-    ///
-    /// If memory runs out they are closed.
-    fn serve_ready<R: Files>(&mut self, rt: &R) {
-        let events = &self.events;
-        if !self
-            .visits
-            .iter()
-            .enumerate()
-            .any(|(place, visit)| is_ready(events, place, visit))
-        {
-            return;
-        }
-        let mut scrape = match self.boards.snapshot(rt, self.alloc) {
-            Ok(snapshot) => Some(Scrape {
-                alloc: self.alloc,
-                snapshot,
-            }),
-            Err(_) => None,
-        };
+    /// Serves the connections that are ready, all by the same numbers: those that are shown once
+    /// the first request is there. If memory runs out for an answer its connection is closed.
+    fn serve_ready<R: Files>(&mut self, rt: &R, now: Instant) {
+        let mut answering = Answering::new(rt, self.alloc, &self.boards);
         for (number, place) in self.visits.iter_mut().enumerate() {
-            if !is_ready(events, number, place) {
+            if !is_ready(&self.events, number, place) {
                 continue;
             }
-            let stays = match (place.as_mut(), &mut scrape) {
-                (Some(visit), Some(scrape)) => visit.serve(scrape),
-                (_, _) => false,
+            let stays = match place {
+                Some(visit) => visit.serve(&mut answering, now),
+                None => false,
             };
             if !stays {
                 *place = None;
@@ -196,11 +199,11 @@ impl Scraper {
     }
 
     /// Returns how long a poll may wait: not at all if a connection is to be served without an
-    /// event, a second if there are connections, so that they are closed in time, or if the
-    /// listener failed, and otherwise until an event comes.
+    /// event or streams may wait, a second if there are connections, so that they are closed in
+    /// time, or if the listener failed, and otherwise until an event comes.
     fn timeout(&self) -> Option<Duration> {
         let mut visits = self.visits.iter().flatten();
-        if visits.any(|visit| visit.has_more) {
+        if self.is_crowded || visits.any(|visit| visit.has_more) {
             return Some(Duration::ZERO);
         }
         let is_idle = self.visits.iter().all(|visit| visit.is_none());
@@ -208,7 +211,8 @@ impl Scraper {
     }
 
     /// Polls once, serves the connections that are ready, closes those that have had their time,
-    /// and accepts others.
+    /// and accepts others. Then rests, so that no more than a part of a processor is used whatever
+    /// comes.
     ///
     /// Returns `Input` if the poll or the clock fails.
     fn make_round<R: Clock + Files>(&mut self, rt: &R) -> Result<(), Fault> {
@@ -219,9 +223,13 @@ impl Scraper {
         let Ok(now) = Instant::now(rt) else {
             return Err(Fault::Input);
         };
-        self.serve_ready(rt);
+        self.serve_ready(rt, now);
         self.close_late(now);
         self.accept_waiting(now);
+        let Ok(spent) = now.elapsed(rt) else {
+            return Err(Fault::Input);
+        };
+        thread::sleep(rt, rest_after(spent));
         Ok(())
     }
 

@@ -1,7 +1,6 @@
 //! One connection of a client that scrapes.
-use http_server::{Config, Connection};
+use http_server::{Config, Connection, Service};
 use http1::Limits;
-use mc_metrics::Scrape;
 use mio::net::TcpStream;
 use std::alloc::Global;
 use std::hash::RandomState;
@@ -19,12 +18,24 @@ const READ_SIZE: usize = 1_024;
 /// soon.
 const STEPS: u32 = 16;
 
+/// What a read or a write has come to.
+enum Step {
+    /// The stream gave or took something.
+    Moved,
+    /// The stream took the end of an answer.
+    Sent,
+    /// The stream has nothing, or takes nothing.
+    Waits,
+}
+
 /// A stream, what is held of its requests and answers, and when it began.
 #[derive(Drop)]
 pub(crate) struct Visit {
     stream: TcpStream,
     connection: Connection,
     pub(crate) begun: Instant,
+    /// When it last took a part of an answer, or else when it began.
+    pub(crate) used: Instant,
     /// It is to be served again, even if no event comes.
     pub(crate) has_more: bool,
 }
@@ -56,39 +67,55 @@ impl Visit {
             stream,
             connection: Connection::new(alloc, keys, limits()),
             begun,
+            used: begun,
             has_more: false,
         }
     }
 
-    /// Writes once if something is pending, and reads once otherwise. Returns whether the stream
-    /// took or gave anything.
+    /// Returns whether an answer is being sent.
+    pub(crate) fn is_answered(&self) -> bool {
+        self.connection.wants_write()
+    }
+
+    /// Writes once if something is pending, and reads once otherwise.
     ///
     /// Returns the stream's error, and `ConnectionAborted` if nothing more is to be done.
-    fn step(&mut self, scrape: &mut Scrape) -> io::Result<bool> {
-        self.connection.advance(scrape);
+    fn step<S: Service>(&mut self, service: &mut S, now: Instant) -> io::Result<Step> {
+        self.connection.advance(service);
         if self.connection.is_done() {
             return Err(ErrorKind::ConnectionAborted.into());
         }
-        let moved = if self.connection.wants_write() {
+        let is_answered = self.is_answered();
+        let moved = if is_answered {
             self.connection.write_to(&mut self.stream)
         } else {
             self.connection.read_from(&mut self.stream)
         };
         match moved {
-            Ok(_) => Ok(true),
-            Err(error) if error.kind() == ErrorKind::WouldBlock => Ok(false),
+            Ok(_) if is_answered => {
+                self.used = now;
+                Ok(if self.is_answered() {
+                    Step::Moved
+                } else {
+                    Step::Sent
+                })
+            }
+            Ok(_) => Ok(Step::Moved),
+            Err(error) if error.kind() == ErrorKind::WouldBlock => Ok(Step::Waits),
             Err(error) => Err(error),
         }
     }
 
-    /// Serves the connection until its stream has nothing and takes nothing more, or it has had
-    /// `STEPS`. Returns whether it stays: not once it is done or has failed.
-    pub(crate) fn serve(&mut self, scrape: &mut Scrape) -> bool {
+    /// Serves the connection until its stream has nothing and takes nothing more, an answer is
+    /// sent, or it has had `STEPS`. Returns whether it stays: not once it is done or has failed.
+    pub(crate) fn serve<S: Service>(&mut self, service: &mut S, now: Instant) -> bool {
         self.has_more = false;
         for _ in 0..STEPS {
-            match self.step(scrape) {
-                Ok(true) => {}
-                Ok(false) => return true,
+            match self.step(service, now) {
+                Ok(Step::Moved) => {}
+                // One answer a round, so that the others get theirs soon.
+                Ok(Step::Sent) => break,
+                Ok(Step::Waits) => return true,
                 Err(_) => return false,
             }
         }
