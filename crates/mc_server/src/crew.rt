@@ -103,6 +103,13 @@ pub(crate) fn open_workers<'a, R: Threads + Sync>(
     all_opened(alloc, opened)
 }
 
+/// Drops workers. They are dropped side by side, since each frees its tables and its history, in
+/// threads of their own where these can be made.
+pub(crate) fn drop_workers<R: Threads + Sync>(rt: &R, workers: Vec<Worker<'_>>) {
+    // If memory runs out for that, those that are left are dropped all the same.
+    let _ = thread::map_vec(rt, workers, &|worker: Worker<'_>| drop(worker));
+}
+
 /// Lets a worker meet the others, one after another, and returns those.
 ///
 /// Returns `Memory` if memory runs out; some of them may not have met it then.

@@ -1,6 +1,6 @@
 //! Serving logs one after another: a log is closed, and the next one is opened over its tables.
 ghost use Rattle.std.specs.List.{AllZip};
-ghost use Rattle.std.specs.Prelude.{◌≡◌, ◌↔◌, ◌⊎◌, ◌<◌, ◌≤◌, All, None, true, false, ℕ, IfErr, IfOk, IfSome, IsTrue, List, MatchResult, length};
+ghost use Rattle.std.specs.Prelude.{◌≡◌, ◌↔◌, ◌⊎◌, ◌<◌, ◌≤◌, ⊤, All, None, true, false, ℕ, IfErr, IfOk, IfSome, IsTrue, List, MatchResult, length};
 ghost use Rattle.mc_connections.specs.InTurn.{InTurn};
 ghost use Rattle.mc_model.specs.State.{TableState};
 ghost use Rattle.mc_net.specs.Beginning.{HaltsServing};
@@ -12,14 +12,15 @@ ghost use Rattle.mc_server.specs.declared.generations.TheConstants.{MOST_PLACES}
 ghost use Rattle.uc_worker.specs.AllWorkers.{AreOnOneRun};
 ghost use Rattle.uc_worker.specs.Going.{CatchesUp, Continues};
 
-use crate::crew::{meet_and_close, open_workers};
+use crate::crew::{drop_workers, meet_and_close, open_workers};
 use crate::opened::Opened;
 use crate::scraping::LogWatch;
 use mc_model::Fault;
 use mc_net::{Begin, Ended, Front};
 use std::alloc::Global;
 use std::sync::Wait;
-use std::thread::Threads;
+use std::thread;
+use std::thread::{JoinHandle, Threads};
 use std::time::Clock;
 use uc_log::Log;
 use uc_worker::{Base, Hashing, Next, Open, Worker, catch_up_all, turn_over};
@@ -36,22 +37,56 @@ pub(crate) enum Served {
 /// What a closed log leaves: itself, and the tables that it was opened over, unless they were
 /// empty.
 #[derive(Drop)]
-pub(crate) struct Closed {
-    pub log: Log,
-    pub base: Option<Base>,
+struct Closed {
+    log: Log,
+    base: Option<Base>,
 }
 
-/// Frees what a closed log has left, once the loops have begun on the next one: so nobody waits for
-/// that but clients who connect.
-struct FreeClosed;
+/// What goes on from log to log besides the front: the watch, and what the last closed log has left
+/// until that is freed.
+#[derive(Drop)]
+struct TurnOvers<'a> {
+    watch: &'a mut LogWatch,
+    // What the last closed log has left, until the next one is served.
+    closed: Option<Closed>,
+    // The thread that frees it then, until that next one is closed.
+    freeing: Option<JoinHandle<()>>,
+}
 
-impl Begin<Option<Closed>> for FreeClosed {
-    ghost done = { λ _ _ after. after ≡ None };
+impl TurnOvers<'_> {
+    /// Begins to free what the last closed log has left, if there was one, in a thread of its own:
+    /// so neither the loops nor the acceptor wait for that while the next log is served. If no
+    /// thread can be made it is freed before this returns.
+    fn free_closed<R: Threads>(&mut self, rt: &R)
+        ensures { self.new.closed ≡ None }
+    {
+        if let Some(closed) = self.closed.take() {
+            // A closure that gets no thread is dropped here, with what it was to free.
+            self.freeing = thread::spawn(rt, move || drop(closed)).ok();
+        }
+    }
+
+    /// Waits until all that earlier logs have left is freed. So there are two logs in memory at most,
+    /// the one that is closed now and the one that follows it, even where logs are filled faster
+    /// than they are freed; mostly it was freed long before.
+    fn await_freed<R: Threads>(&mut self, rt: &R)
+        ensures { self.new.freeing ≡ None }
+    {
+        if let Some(freeing) = self.freeing.take() {
+            freeing.join(rt);
+        }
+    }
+}
+
+/// Does nothing when the loops have begun: only what begins first is announced.
+struct Unannounced;
+
+impl Begin<()> for Unannounced {
+    ghost done = { λ _ _ _. ⊤ };
 
     ghost stopped = { λ _ _ _ _. ⊥ };
 
-    fn begin<R: Wait>(&self, _rt: &R, closed: &mut Option<Closed>) -> Result<(), Fault> {
-        *closed = None;
+    fn begin<R: Wait>(&self, _rt: &R, _state: &mut ()) -> Result<(), Fault> {
         Ok(())
     }
 }
@@ -126,14 +161,15 @@ fn serve_part<'a, R: Threads + Wait + Sync, B: Begin<S>, S>(
 }
 
 /// Serves a log with these workers until every connection has ended, or until it is closed, which
-/// the watch is notified of, and the next one is opened. Where none can follow, its workers go on
-/// to the end: commands after its last place are answered `SERVER_ERROR log full`.
+/// the watch is notified of, and the next one is opened. That waits for the freeing of what earlier
+/// logs have left, if it isn't over by then. Where none can follow, its workers go on to the end:
+/// commands after its last place are answered `SERVER_ERROR log full`.
 ///
 /// Returns the errors of `serve_part`.
 fn serve_log<'a, R: Threads + Wait + Clock + Sync, B: Begin<S>, S>(
     rt: &R,
     alloc: Global,
-    watch: &mut LogWatch,
+    turn_overs: &mut TurnOvers<'_>,
     front: &mut Front,
     log: &'a Log,
     workers: Vec<Worker<'a>>,
@@ -150,67 +186,65 @@ fn serve_log<'a, R: Threads + Wait + Clock + Sync, B: Begin<S>, S>(
         AreOpenedOver log.entry.now.settings log.entry.now tables workers.entry.items →
         ServesTo log.entry.now.settings is_last logs places front.new served) }
     ensures front { IfOk result (λ _. IsFrontOf log.entry.now.settings front.new) }
+    // Once the next log is open no thread frees an earlier one.
+    ensures freed { IfOk result (λ served. (used : ℕ) (next : Next) →
+        served ≡ Served.Full used next → turn_overs.new.freeing ≡ None) }
     ensures outcome { MatchResult result (λ _. B.done begin.now state.old state.new)
         (HaltsServing (B.done begin.now) (B.stopped begin.now) state.old state.new) }
 {
     let (workers, ended) = serve_part(rt, alloc, front, log, workers, is_last, begin, state)?;
     match ended {
         Ended::Done => return Ok(Served::Done(meet_and_close(alloc, log, workers)?)),
-        Ended::Full => watch.note_close(rt),
+        Ended::Full => turn_overs.watch.note_close(rt),
     }
+    // Only then, so that the time is part of the turn over's.
+    turn_overs.await_freed(rt);
     let mut workers = workers;
     if let Some((used, next)) = next_log(alloc, log, &mut workers) {
+        drop_workers(rt, workers);
         return Ok(Served::Full(used, next));
     }
-    let mut nothing = None;
-    let (workers, _) = serve_part(
-        rt,
-        alloc,
-        front,
-        log,
-        workers,
-        true,
-        &FreeClosed,
-        &mut nothing,
-    )?;
+    let (workers, _) = serve_part(rt, alloc, front, log, workers, true, &Unannounced, &mut ())?;
     Ok(Served::Done(meet_and_close(alloc, log, workers)?))
 }
 
-/// Opens the workers of a log, and serves it as `serve_log` does. Returns also what is left of it.
+/// Opens the workers of a log, and serves it as `serve_log` does, while what the log before has left
+/// is freed. What this one leaves is kept for when the next one is served.
 ///
 /// Returns the errors of `serve_log`, and `Memory` if memory runs out.
 fn serve_opened<R: Threads + Wait + Clock + Sync, B: Begin<S>, S>(
     rt: &R,
     alloc: Global,
     hashing: Hashing,
-    watch: &mut LogWatch,
+    turn_overs: &mut TurnOvers<'_>,
     front: &mut Front,
     opened: Opened,
     is_last: bool,
     begin: &B,
     state: &mut S,
-) -> Result<(Served, Closed), Fault>
+) -> Result<Served, Fault>
     requires some { 0 < opened.log.settings.workers }
     requires front { IsFrontOf opened.log.settings front.old }
-    ensures serves { IfOk result (λ pair. (logs places : ℕ) (who : List InTurn) →
+    ensures serves { IfOk result (λ served. (logs places : ℕ) (who : List InTurn) →
         LogsWere opened.log.settings logs places who (tables_over opened.log opened.base) →
         AreServedBy who front.old →
-        ServesTo opened.log.settings is_last logs places front.new pair.0) }
+        ServesTo opened.log.settings is_last logs places front.new served) }
     ensures front { IfOk result (λ _. IsFrontOf opened.log.settings front.new) }
     ensures outcome { MatchResult result (λ _. B.done begin.now state.old state.new)
         (HaltsServing (B.done begin.now) (B.stopped begin.now) state.old state.new) }
 {
     let Opened { log, passes, base } = opened;
     let workers = open_workers(rt, alloc, hashing, &log, passes, &base)?;
-    watch.note_begin(rt);
+    turn_overs.free_closed(rt);
+    turn_overs.watch.note_begin(rt);
     let served = serve_log(
-        rt, alloc, watch, front, &log, workers, is_last, begin, state,
+        rt, alloc, turn_overs, front, &log, workers, is_last, begin, state,
     )?;
-    Ok((served, Closed { log, base }))
+    turn_overs.closed = Some(Closed { log, base });
+    Ok(served)
 }
 
-/// Serves the next log, as `serve_log` does, and frees what the one before it has left once all
-/// loops have begun.
+/// Serves the next log, as `serve_opened` does.
 ///
 /// Returns `Memory` if memory runs out or a worker's loop doesn't begin, and `Input` if waiting for
 /// connections fails.
@@ -218,11 +252,10 @@ fn serve_next<R: Threads + Wait + Clock + Sync>(
     rt: &R,
     alloc: Global,
     hashing: Hashing,
-    watch: &mut LogWatch,
+    turn_overs: &mut TurnOvers<'_>,
     front: &mut Front,
     next: Next,
     is_last: bool,
-    closed: &mut Option<Closed>,
 ) -> Result<Served, Fault>
     requires next { IsNextLog next.log.settings next }
     requires some { 0 < next.log.settings.workers }
@@ -235,19 +268,17 @@ fn serve_next<R: Threads + Wait + Clock + Sync>(
     ensures faults { IfErr result IsNetworkFault }
 {
     let opened = Opened::over(next);
-    let (served, left) = serve_opened(
+    serve_opened(
         rt,
         alloc,
         hashing,
-        watch,
+        turn_overs,
         front,
         opened,
         is_last,
-        &FreeClosed,
-        closed,
-    )?;
-    *closed = Some(left);
-    Ok(served)
+        &Unannounced,
+        &mut (),
+    )
 }
 
 /// How many places of earlier logs are used in total at most before the last one begins, so that
@@ -297,11 +328,23 @@ pub(crate) fn serve_logs<R: Threads + Wait + Clock + Sync, B: Begin<S>, S>(
     let mut number = 1;
     let mut total = 0;
     let mut is_last = is_last_log(most, number, total);
-    let (first, left) = serve_opened(
-        rt, alloc, hashing, watch, front, opened, is_last, begin, state,
+    let mut turn_overs = TurnOvers {
+        watch,
+        closed: None,
+        freeing: None,
+    };
+    let first = serve_opened(
+        rt,
+        alloc,
+        hashing,
+        &mut turn_overs,
+        front,
+        opened,
+        is_last,
+        begin,
+        state,
     )?;
     let mut served = first;
-    let mut closed = Some(left);
     for _ in rt.forever() {
         let (used, next) = match served {
             Served::Done(last) => return Ok(total + last as u64),
@@ -310,7 +353,7 @@ pub(crate) fn serve_logs<R: Threads + Wait + Clock + Sync, B: Begin<S>, S>(
         number = number.saturating_add(1);
         total += used as u64;
         is_last = is_last_log(most, number, total);
-        served = serve_next(rt, alloc, hashing, watch, front, next, is_last, &mut closed)?;
+        served = serve_next(rt, alloc, hashing, &mut turn_overs, front, next, is_last)?;
     }
     unreachable!()
 }
