@@ -1,11 +1,14 @@
 //! The loop of the listener for scrapes.
-ghost use Rattle.std.specs.Prelude.{◌≡◌, ◌⊎◌, IfErr};
+ghost use Rattle.std.specs.Prelude.{◌≡◌, ◌≢◌, ◌⊎◌, All, IfErr, IfSome, None, map};
+ghost use Rattle.mc_scraping.specs.Yielding.{IsFirstToYield, holder_of};
+ghost use Rattle.mc_scraping.specs.declared.yielding.Holder.{Holder};
+ghost use Rattle.mc_scraping.specs.declared.yielding.Holder.TheVariants as Holder;
 
 use crate::answering::Answering;
 use crate::boards::Boards;
 use crate::resting::rest_after;
 use crate::visit::Visit;
-use crate::yielding::place_for_new;
+use crate::yielding::{Holder, first_to_yield};
 use mc_model::Fault;
 use mio::net::{TcpListener, TcpStream};
 use mio::{Events, Interest, Poll, Token, Waker};
@@ -22,7 +25,7 @@ use std::time::{Clock, Duration, Instant};
 /// How many connections there are at most, and how many streams are accepted in a round.
 const MOST_VISITS: usize = 16;
 
-/// After how many seconds a connection is closed, whatever it does.
+/// After how many seconds a connection is closed at the latest, whatever it does.
 const MOST_SECONDS: u64 = 10;
 
 /// How many events a poll reports at most.
@@ -128,6 +131,22 @@ fn is_ready(events: &Events, place: usize, visit: &Option<Visit>) -> bool {
 }
 
 impl Scraper {
+    /// Returns the place for a stream that comes now: a free one, or else that of the connection
+    /// that was idle longest, of those to which no answer is being sent if there is one. `None` if
+    /// all have begun just now.
+    fn place_for_new(&self, now: Instant) -> Option<usize>
+        ensures some { IfSome result (λ place. (holder : Holder) × (holder ≢ Holder.New)
+            × IsFirstToYield (map (holder_of now) self.now.visits.items) place holder) }
+        ensures none { result ≡ None →
+            All (λ visit. holder_of now visit ≡ Holder.New) self.now.visits.items }
+    {
+        let (place, holder) = first_to_yield(&self.visits, now)?;
+        match holder {
+            Holder::New => None,
+            _ => Some(place),
+        }
+    }
+
     /// Gives a stream this place, whose connection is closed if there is one. A stream that can't
     /// be registered is closed, and the listener is noted to be asked again.
     fn admit(&mut self, stream: TcpStream, place: usize, now: Instant) {
@@ -152,7 +171,7 @@ impl Scraper {
         self.is_troubled = false;
         self.is_crowded = false;
         for _ in 0..MOST_VISITS {
-            let Some(place) = place_for_new(&self.visits, now) else {
+            let Some(place) = self.place_for_new(now) else {
                 break;
             };
             match self.listener.accept() {

@@ -1,4 +1,8 @@
 //! One connection of a client that scrapes.
+ghost use Rattle.std.specs.Prelude.{◌≡◌, ◌↔◌, ◌<◌, IsTrue, Some};
+ghost use Rattle.mc_scraping.specs.Yielding.{holder_of, pending};
+
+use crate::yielding::Holder;
 use http_server::{Config, Connection, Service};
 use http1::Limits;
 use mio::net::TcpStream;
@@ -35,7 +39,7 @@ pub(crate) struct Visit {
     connection: Connection,
     pub(crate) begun: Instant,
     /// When it last took a part of an answer, or else when it began.
-    pub(crate) used: Instant,
+    used: Instant,
     /// It is to be served again, even if no event comes.
     pub(crate) has_more: bool,
 }
@@ -73,8 +77,24 @@ impl Visit {
     }
 
     /// Returns whether an answer is being sent.
-    pub(crate) fn is_answered(&self) -> bool {
+    fn is_answered(&self) -> bool
+        ensures { IsTrue result ↔ (0 < pending self.now) }
+    {
         self.connection.wants_write()
+    }
+
+    /// Returns what is said of it as the holder of a place at this time.
+    pub(crate) fn holder(&self, now: Instant) -> Holder
+        ensures { result ≡ holder_of now (Some self.now) }
+    {
+        let idle = now.duration_since(self.used).as_nanos();
+        if now.duration_since(self.begun).is_zero() {
+            Holder::New
+        } else if self.is_answered() {
+            Holder::Answered(idle)
+        } else {
+            Holder::Idle(idle)
+        }
     }
 
     /// Writes once if something is pending, and reads once otherwise.
