@@ -21,19 +21,24 @@ all_but_last() {
 failed=0
 sums=()
 steps=()
-# Runs a command, whose last line is kept for the total.
+# Runs a command, whose last line is kept for the total. One that counts no failure and ends as if there were some has failed too.
 count() {
-    local sum=$folder/${#sums[@]}
+    local sum=$folder/${#sums[@]} status=0
     sums+=("$sum")
     steps+=("$*")
-    "$@" 2>&1 | all_but_last "$sum" || failed=1
+    "$@" 2>&1 | all_but_last "$sum" || status=$?
+    [ "$status" -ne 0 ] || return 0
+    failed=1
+    ! counts_no_failure "$sum" || sed -i "s/.*/status $status behind '&'/" "$sum"
 }
+
+counts_no_failure() { grep -qxE '[0-9]+ passed, 0 failed' "$1"; }
 
 # Says again at the end, where a reader of a long log looks first, which steps failed, and in what.
 say_failures() {
     local step
     for step in "${!steps[@]}"; do
-        grep -qxE '[0-9]+ passed, 0 failed' "${sums[step]}" || { echo "failed: ${steps[step]}" && cat "${sums[step]}.failures" 2>/dev/null || true; }
+        counts_no_failure "${sums[step]}" || { echo "failed: ${steps[step]}" && cat "${sums[step]}.failures" 2>/dev/null || true; }
     done
 }
 
@@ -85,6 +90,6 @@ count passes python3 tools/reading.py --check
 count passes python3 tools/compatibility/differences.py --check
 
 say_failures
-awk '{ passed += $1; failed += $3; if ($0 !~ /^[0-9]+ passed, [0-9]+ failed$/) { print; failed++ } }
+awk '/^[0-9]+ passed, [0-9]+ failed$/ { passed += $1; failed += $3; next } { print; failed++ }
      END { print passed + 0 " passed, " failed + 0 " failed"; exit (failed > 0) }' "${sums[@]}" || failed=1
 exit "$failed"

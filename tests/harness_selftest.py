@@ -65,36 +65,39 @@ def is_gone(pid):
 
 @contextlib.contextmanager
 def stand_in(name, text):
-    """A program of this name in a folder of its own, which writes its process's number to the file `pid` there first."""
+    """A program of this name in a folder of its own."""
     with tempfile.TemporaryDirectory() as folder:
         program = pathlib.Path(folder, name)
-        program.write_text(f'#!/bin/sh\necho $$ >"{folder}/pid"\n{text}\n', encoding="ascii")
+        program.write_text(f"#!/bin/sh\n{text}\n", encoding="ascii")
         program.chmod(0o755)
         yield program
 
 
-def failure_of(start, program):
+def failure_of(start):
     """What starting a server raised, after how many seconds, and whether its process is gone."""
-    begun = time.monotonic()
+    begun, started, popen = time.monotonic(), [], subprocess.Popen
+    # By the number that it was started under: it may be ended before it has run at all.
+    note = lambda *words, **settings: started.append(popen(*words, **settings)) or started[-1]
     try:
-        start()
+        with patch.object(subprocess, "Popen", note):
+            start()
         said = "nothing"
     except (Exception, SystemExit) as error:
         said = f"{type(error).__name__}: {error}"
     took = time.monotonic() - begun
-    return said, took, is_gone(int(program.with_name("pid").read_text(encoding="ascii")))
+    return said, took, len(started) == 1 and is_gone(started[0].pid)
 
 
 def check_hanging_servers():
     for what, text in (("nothing", ""), ("its listeners", "echo listening a 127.0.0.1:1"), ("half a line", "printf 'listening a'")):
         with stand_in("wfmc", f"{text}\nexec sleep 100") as program, patch.object(servers, "SECONDS", 1):
-            said, took, gone = failure_of(lambda: servers.Server(str(program)), program)
+            said, took, gone = failure_of(lambda: servers.Server(str(program)))
             check(f"wfmc hangs once it has said {what}", said == "TimeoutError: wfmc isn't ready after 1 seconds" and took < PATIENCE, (said, took))
             check(f"it is ended, once it has said {what}", gone)
     for name, start in (("memcached", servers.Memcached), ("socat", lambda: servers.Relay("EXEC:true"))):
         with stand_in(name, "exec sleep 100") as program, patch.object(servers, "SECONDS", 1):
             with patch.dict(os.environ, PATH=f"{program.parent}:{os.environ['PATH']}"):
-                said, took, gone = failure_of(start, program)
+                said, took, gone = failure_of(start)
             check(f"{name} never listens", said == f"SystemExit: {name} doesn't listen" and took < PATIENCE, (said, took))
             check(f"{name} is ended", gone)
 

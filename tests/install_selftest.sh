@@ -149,6 +149,7 @@ check "the prefix is /usr/local where none is given" test -x "$dest/usr/local/bi
 look_at_all /usr/local/bin/wfmc /etc/default/wfmc
 look_at_changed_defaults
 check "uninstalling what isn't there is refused" fails uninstall
+check "and why" says "$folder/said" "tools/install.sh: nothing is installed under "
 
 place_at "/opt/wfmc under DESTDIR" opt /opt/wfmc /opt/wfmc/etc
 mkdir -p "$dest/opt/wfmc/bin"
@@ -177,6 +178,7 @@ check "no file is left" has_no_file_but ""
 for prefix in relative "/a'quote" '/a$dollar'; do
     where=$prefix dest=$folder/refused
     check "such a prefix is refused" fails install
+    check "and why" says "$folder/said" "tools/install.sh: PREFIX and SYSCONFDIR "
     check "nothing was installed" test ! -e "$dest"
 done
 

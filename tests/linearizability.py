@@ -266,7 +266,9 @@ def run_endless(program, seed, number, workers, log_bytes, is_within):
     everyone = among_idle(chance, tenants)
     # An administrator may give a tenant as much as any.
     most = everyone | dict.fromkeys(tenants, max(QUOTAS))
-    address_space = most_of_endless(workers, most, connections, log_bytes) if is_within else None
+    # A killed client's connection is gone before it has the next one.
+    at_a_time = sum(count + 2 for count in alike.values()) + 1
+    address_space = most_of_endless(workers, most, at_a_time, log_bytes, len(KEYS)) if is_within else None
     with Server(program, options, everyone, address_space=address_space) as server:
         idle = server.connect(next(iter(tenants)))
         kinds = {

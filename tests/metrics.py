@@ -99,21 +99,24 @@ class Scraper:
         self.socket.close()
 
 
+def expect(what, holds, why):
+    """Counts what doesn't hold, and nothing where it does: how often this is asked for depends on the machine."""
+    if not holds:
+        check(what, False, why)
+
+
 def samples(text):
     """The value of each sample of a text, by its name and labels."""
-    read = {}
-    for line in text.splitlines():
-        if not line.startswith("#"):
-            sample = SAMPLE.fullmatch(line)
-            check("a sample", sample, line)
-            read[sample[1] if sample[2] is None else f"{sample[1]}{{{sample[2]}}}"] = float(sample[3])
-    return read
+    lines = [line for line in text.splitlines() if not line.startswith("#")]
+    found = [sample for sample in map(SAMPLE.fullmatch, lines) if sample]
+    expect("a scrape's samples", len(found) == len(lines), [line for line in lines if not SAMPLE.fullmatch(line)][:3])
+    return {sample[1] if sample[2] is None else f"{sample[1]}{{{sample[2]}}}": float(sample[3]) for sample in found}
 
 
 def scrape(server):
     scraper = Scraper(server)
     status, _, body = scraper.get()
-    check("a scrape", status == "HTTP/1.1 200 OK", status)
+    expect("a scrape", status == "HTTP/1.1 200 OK", status)
     scraper.close()
     return samples(body)
 
@@ -139,8 +142,13 @@ def tables(tenant, items, size, quotas, connections):
     return {of(name, tenant): value for name, value in numbers.items()}
 
 
-def lags_of(shown, workers):
-    return [shown[f'wfmc_worker_lag_places{{worker="{worker}"}}'] for worker in range(workers)]
+def lag_of(worker):
+    return f'wfmc_worker_lag_places{{worker="{worker}"}}'
+
+
+def lags_of(shown):
+    """The lags of two workers."""
+    return [shown[lag_of(worker)] for worker in range(2)]
 
 
 def check_numbers():
@@ -163,9 +171,8 @@ def check_numbers():
         # Keys and data, and 64 more for each command, as --log-bytes counts them.
         kept = 20 * 12 + 4 + 4 * 7 + 25 * 64
         log = {"wfmc_log_used_places": 25, "wfmc_log_bytes": kept, "wfmc_log_places": 1000, "wfmc_log_generation": 1}
-        shown = awaits(server, "what the clients know", {**wanted, **log})
-        lags = lags_of(shown, 16)
-        check("the lags", min(lags) == 0 and max(lags) <= 25, str(lags))
+        # The last set was sent to the eighth worker, which has replayed them all then.
+        shown = awaits(server, "what the clients know", {**wanted, **log, lag_of(7): 0})
         connections = [shown[f'wfmc_worker_connections{{worker="{worker}"}}'] for worker in range(16)]
         # Connections are handed to the workers in turn.
         check("the workers' connections", connections == [1] * 8 + [0] * 8, str(connections))
@@ -198,7 +205,7 @@ def check_pages(server):
 def fallen_lags(server, most):
     """The lags of two workers, once none is above this, or after some patience."""
     until = time.monotonic() + PATIENCE
-    while max(lags := lags_of(scrape(server), 2)) > most and time.monotonic() < until:
+    while max(lags := lags_of(scrape(server))) > most and time.monotonic() < until:
         time.sleep(0.02)
     return lags
 
@@ -208,13 +215,15 @@ def check_lag():
     with Server(PROGRAM, ("--workers", "2", *METRICS)) as server:
         busy, idle = server.client("a", 0), server.client("a", 1)
         check("an idle worker's client", idle.line(b"version\r\n") == "VERSION 1.0.0")
+        # Until that worker waits for its next event it may still replay what the other does.
+        time.sleep(0.3)
         check("a busy worker's sets", {busy.line(b"set k 0 0 1\r\nx\r\n") for _ in range(50)} == {"STORED"})
-        lags = lags_of(awaits(server, "what the busy worker has done", {"wfmc_log_used_places": 50, "wfmc_log_bytes": 50 * 66}), 2)
-        check("a worker that lags", min(lags) == 0 and 0 < max(lags) <= 50, str(lags))
+        lags = lags_of(awaits(server, "what the busy worker has done", {"wfmc_log_used_places": 50, "wfmc_log_bytes": 50 * 66}))
+        check("a worker that lags", lags[0] == 0 < lags[1], str(lags))
         check("an idle worker's get", idle.ask(b"get k\r\n", b"END\r\n") == b"VALUE k 0 1\r\nx\r\nEND\r\n")
         # A get keeps a byte more for each of its keys.
-        lags = lags_of(awaits(server, "what both have done", {"wfmc_log_used_places": 51, "wfmc_log_bytes": 50 * 66 + 66}), 2)
-        check("a worker that has caught up", min(lags) == 0 and max(lags) <= 1, str(lags))
+        lags = lags_of(awaits(server, "what both have done", {"wfmc_log_used_places": 51, "wfmc_log_bytes": 50 * 66 + 66}))
+        check("a worker that has caught up", lags[1] == 0 and lags[0] <= 1, str(lags))
         replies = busy.ask(b"get k\r\n" * (2 * STRIDE) + b"version\r\n", b"VERSION 1.0.0\r\n")
         check("a busy worker's gets", replies.count(b"END\r\n") == 2 * STRIDE)
         awaits(server, "what the busy worker has done then", {"wfmc_log_used_places": 51 + 2 * STRIDE})
@@ -272,15 +281,23 @@ def used_in_a_second(server):
     return server.processor_seconds() - used
 
 
+def used_at_rest(server):
+    """The same of the first second of some in which that is little, or else of the last."""
+    until = time.monotonic() + PATIENCE
+    while (used := used_in_a_second(server)) >= 0.1 and time.monotonic() < until:
+        pass
+    return used
+
+
 def check_rest():
     """Where nobody scrapes no processor is used, and none next to a connection that had more scrapes than one of its turns takes and stays."""
     with Server(PROGRAM, METRICS) as server:
-        used = used_in_a_second(server)
+        used = used_at_rest(server)
         check("nobody scrapes, and it rests", used < 0.1, f"{used:.2f} seconds of a processor in one")
         scraper = Scraper(server)
         scraper.send(b"GET /metrics HTTP/1.1\r\nHost: wfmc\r\n\r\n" * 20)
         check("scrapes that are asked for at once", all(scraper.reply()[0] == "HTTP/1.1 200 OK" for _ in range(20)))
-        used = used_in_a_second(server)
+        used = used_at_rest(server)
         check("a quiet connection, and it rests", used < 0.1, f"{used:.2f} seconds of a processor in one")
         check("one more scrape over it", scraper.get()[0] == "HTTP/1.1 200 OK")
 
@@ -351,12 +368,14 @@ def check_tallies():
 
 def starve(client):
     """What a client reads once its block has come up to where no memory is left for more of it."""
-    client.socket.sendall(b"set k 0 0 1000000\r\n")
-    for _ in range(99):
-        client.socket.sendall(10_000 * b"x")
-        if select.select([client.socket], [], [], 0.02)[0]:
-            break
-    return client.ask(b"", protocol.STARVED)
+    # Where much is on its way yet, a reset follows the reply.
+    with contextlib.suppress(OSError):
+        client.socket.sendall(b"set k 0 0 1000000\r\n")
+        for _ in range(99):
+            client.socket.sendall(10_000 * b"x")
+            if select.select([client.socket], [], [], 0.02)[0]:
+                break
+    return client.drain()[1]
 
 
 def check_starved():
@@ -443,8 +462,9 @@ def check_full_speed():
             wanted |= {f'wfmc_tenant_commands_total{{tenant="{tenant}",command="{kind}"}}': number for kind in ("set", "get")}
             wanted |= {of("hits_total", tenant): number, of("misses_total", tenant): 0}
         shown = awaits(server, "what two clients leave", wanted)
-        logs = 4 * total // PLACES
-        check("logs that followed", logs // 2 <= shown["wfmc_log_generation"] <= logs + 2, f"{shown['wfmc_log_generation']} {logs}")
+        # Each of these is a set and a get. A log's last place is often left.
+        logs = 2 * total // PLACES
+        check("logs that followed", logs <= shown["wfmc_log_generation"] <= logs + logs // 100 + 2, f"{shown['wfmc_log_generation']} {logs}")
         check("turn overs", shown["wfmc_turn_over_seconds_count"] == shown["wfmc_log_generation"] - 1)
         seconds, passed = shown["wfmc_turn_over_seconds_sum"], time.monotonic() - begun
         check("their time, in seconds", 0 < seconds < passed, f"{seconds} {passed}")
@@ -481,20 +501,20 @@ def check_odd_requests(server):
         slow.send(bytes([byte]))
         time.sleep(0.01)
     check("a slow request", slow.reply()[0] == "HTTP/1.1 200 OK")
-    for what, sent in (("a huge head", b"GET / HTTP/1.1\r\nX: " + b"x" * 100_000 + b"\r\n\r\n"), ("a huge line", b"GET /" + b"x" * 100_000)):
+    head, line = b"GET / HTTP/1.1\r\nX: " + b"x" * 100_000 + b"\r\n\r\n", b"GET /" + b"x" * 100_000
+    for what, sent, wanted in (("a huge head", head, "431"), ("a huge line", line, "414")):
         huge = Scraper(server)
-        try:
+        # Where much is on its way yet, a reset follows the answer.
+        with contextlib.suppress(OSError):
             huge.send(sent)
-            status = huge.reply()[0]
-        except (ConnectionResetError, BrokenPipeError):
-            status = ""
-        check(what, status == "" or status.split()[1] in ("400", "414", "431"), status)
+        status = huge.reply()[0]
+        check(what, status.split()[1:2] == [wanted], status)
     body = b"GET / HTTP/1.1\r\nHost: w\r\nContent-Length: 9\r\n\r\n123456789"
     for what, sent in (("no request", b"\0\1\2\r\n\r\n"), ("memcached's words", b"get a\r\n\r\n"), ("a body", body)):
         wrong = Scraper(server)
         wrong.send(sent)
         status = wrong.reply()[0]
-        check(what, status.split()[1] in ("400", "413") and wrong.ends(), status)
+        check(what, status.split()[1:2] in (["400"], ["413"]) and wrong.ends(), status)
     half = Scraper(server)
     half.send(b"GET /met")
     half.socket.shutdown(socket.SHUT_WR)

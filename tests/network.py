@@ -278,6 +278,8 @@ def check_admins_address():
         taken = "127.0.0.1:%d" % other.getsockname()[1]
         check("a port in use", ending_of("--admin", taken, "a=127.0.0.1:0,1,1") == (1, b"", b"wfmc: cannot listen admin\n"))
         check("a tenant's is tried first", ending_of("--admin", taken, f"a={taken},1,1") == (1, b"", b"wfmc: cannot listen a\n"))
+    port = free_port()
+    check("a port of two tenants", ending_of(*(f"{name}=127.0.0.1:{port},1,1" for name in "ab")) == (1, b"", b"wfmc: cannot listen b\n"))
     refused = 2, b"", b"wfmc: bad settings\n"
     check("a tenant named admin", ending_of("--admin", "127.0.0.1:0", "a=127.0.0.1:0,1,1", "admin=127.0.0.1:0,1,1") == refused)
     for address in ("127.0.0.1", "localhost:1", "[::1]:1", "127.0.0.1:65536", "127.0.0.1:0,1,1"):
@@ -374,6 +376,7 @@ def check_flood():
         thread.start()
         time.sleep(0.1)
         check("next to a flood", is_answered(ask(server, "b")))
+        check("the flood goes on", thread.is_alive())
         is_over.set()
         reset(flooding)
         thread.join()
@@ -543,7 +546,8 @@ def check_whole_log():
     with Server(PROGRAM, ["--workers", "2", "--places", str(places)], {"a": LARGE}) as server:
         answer(server, "a", b"set n 0 0 1\r\n0\r\n")
         with concurrent.futures.ThreadPoolExecutor(2) as pool:
-            replies = list(pool.map(lambda _: answer(server, "a", b"incr n 1\r\n" * (places // 2)) or b"", range(2)))
+            # On a slow machine these take more than the patience for one answer.
+            replies = list(pool.map(lambda _: exchange(server.ports["a"], [b"incr n 1\r\n" * (places // 2)], 600)[0], range(2)))
         lines = [it.split(b"\r\n")[:-1] for it in replies]
         counts = [[int(line) for line in it if line.isdigit()] for it in lines]
         check("each client's numbers grow", all(it == sorted(set(it)) for it in counts))
@@ -605,6 +609,10 @@ def check_workers_and_places():
     """No more workers serve than a log has places, where another may follow."""
     for generations, threads in (("0", 3), ("2", 3), ("1", 5)):
         with Server(PROGRAM, ["--workers", "4", "--places", "2", "--generations", generations], {"a": LARGE}) as server:
+            until = time.monotonic() + PATIENCE
+            # One that has ended may be listed a moment longer.
+            while server.threads() > threads and time.monotonic() < until:
+                time.sleep(0.01)
             check(f"threads of 4 workers, 2 places and {generations} logs", server.threads() == threads, server.threads())
 
 
@@ -752,6 +760,7 @@ def main():
     check_admins_address()
     network_places.check_reserve(PROGRAM, check)
     network_places.check_next_to_crowd(PROGRAM, check)
+    network_places.check_next_to_busy(PROGRAM, check)
     network_places.check_passing_on(PROGRAM, check)
     check_crowd()
     check_at_once()

@@ -6,6 +6,7 @@ Thousands of connections are made at a time, each of which needs a descriptor he
 import contextlib
 import pathlib
 import resource
+import select
 import time
 
 from harness.answers import PATIENCE, answer, are_answered, ask, is_answered, is_answered_again, is_closed
@@ -116,6 +117,11 @@ def check_reserve(program, check):
     check("far more", most == (2, b"", why.replace(b"513", b"%d" % (2**64 - 1))), most)
 
 
+def get_of(count):
+    """A line that asks for this many keys, of none of which there is an item."""
+    return b"get" + b" k" * count + b"\r\n"
+
+
 def send_what_fits(client, requests):
     """Sends of these requests as much as the system holds, and doesn't wait."""
     client.setblocking(False)
@@ -153,7 +159,8 @@ def check_next_to_crowd(program, check):
             for client in busy:
                 send_what_fits(client, b"\n" * 100_000)
             crowd = [ask(server, "a") for _ in range(400)]
-        check("a crowd is accepted", has_accepted(server, before + 400))
+        # The 88 without a place are closed once each of the others has had a first turn, some 20 ms later: those who have one stay.
+        check("a crowd is accepted", has_accepted(server, before + 312))
         for name in ("b", "admin", "b", "admin", "b"):
             check(f"a new client of {name} next to a crowd", is_answered_soon(server, name))
         for client in busy:
@@ -162,6 +169,34 @@ def check_next_to_crowd(program, check):
         check("those of a crowd who have places", answered >= 312, answered)
         for client in crowd:
             client.close()
+
+
+def is_answered_before(server, name):
+    """Whether a client that comes now is answered before one of the first tenant's that has come a little earlier."""
+    with ask(server, "a") as earlier:
+        # By then the worker has it.
+        time.sleep(0.005)
+        with ask(server, name) as later:
+            first = select.select([earlier, later], [], [], PATIENCE)[0]
+            return are_answered([later, earlier]) and first == [later]
+
+
+def check_next_to_busy(program, check):
+    """A tenant has 200 clients who keep the worker busy, so that another of its own waits until each of them has had a turn. A new client of another
+    tenant, and an administrator, waits neither behind those nor behind that one."""
+    with Server(program, [*ADMIN, "--workers", "1", "--reserve", "512"], {"a": LARGE, "b": LARGE}) as server:
+        busy = held_places(server, "a", 200)
+        # One long line lets the worker read much of each at a time from then on.
+        for client in busy:
+            client.sendall(get_of(8_000))
+        check("clients before they are busy", len(busy) == 200 and are_answered(busy, b"END\r\n"))
+        with server.stopped():
+            for client in busy:
+                send_what_fits(client, get_of(500) * 500)
+        for name in ("b", "admin"):
+            check(f"a new client of {name} before one of a busy tenant", any(is_answered_before(server, name) for _ in range(5)))
+        for client in busy:
+            reset(client)
 
 
 def check_passing_on(program, check):

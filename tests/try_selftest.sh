@@ -14,15 +14,19 @@ mkdir "$folder/temporary"
 # A port of loopback that is free, with the next one.
 free_ports() {
     python3 - <<'END'
-import socket
+import random, socket
+least = int(open("/proc/sys/net/ipv4/ip_local_port_range").read().split()[0])
+# Below the ports that the system gives to clients, if it leaves any: no client gets one of these meanwhile, and none that connects reaches itself.
+ports = range(1_024, least - 1) or range(1_024, 65_535)
 while True:
+    port = random.choice(ports)
     with socket.socket() as first, socket.socket() as second:
-        first.bind(("127.0.0.1", 0))
         try:
-            second.bind(("127.0.0.1", first.getsockname()[1] + 1))
-        except (OSError, OverflowError):
+            first.bind(("127.0.0.1", port))
+            second.bind(("127.0.0.1", port + 1))
+        except OSError:
             continue
-        print(first.getsockname()[1])
+        print(port)
         break
 END
 }
@@ -35,8 +39,9 @@ refuses_a_taken_port() {
     python3 -c 'import socket, sys, time
 with socket.create_server(("127.0.0.1", int(sys.argv[1]))): print(flush=True); time.sleep(60)' "$taken" >"$folder/listens" &
     tried=$!
-    until [ -s "$folder/listens" ] || ! kill -0 "$tried" 2>/dev/null; do sleep 0.1; done
-    tools/try.sh "$3" "$2" >"$folder/output" 2>"$folder/errors" || status=$?
+    until [ -s "$folder/listens" ]; do kill -0 "$tried" 2>/dev/null || { tried=; return 1; }; sleep 0.1; done
+    # Where the port isn't found to be taken, wfmc would be compiled, and serve for an hour.
+    timeout 60 tools/try.sh "$3" "$2" >"$folder/output" 2>"$folder/errors" || status=$?
     kill "$tried" && { wait "$tried" || true; } 2>/dev/null
     tried=
     [ "$status" -eq 1 ] && [ ! -s "$folder/output" ] && says "$folder/errors" "127.0.0.1:$taken is taken"
