@@ -67,6 +67,8 @@ END
 }
 
 starts() {
+    # What another check has left there says that it is ready.
+    : >"$folder/output"
     # In a session of its own, so that an interrupt reaches all that it started, as at a terminal; the shell has it ignored in the background.
     TMPDIR=$folder/temporary setsid env --default-signal=INT make -s try PORT="$1" >"$folder/output" 2>"$folder/errors" &
     tried=$!
