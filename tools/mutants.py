@@ -5,8 +5,9 @@ Usage: tools/mutants.py [CRATE | CRATE/MUTANT]..., where a crate's name stands f
 begins with the libraries that make test or make build has built, and proves those that have changed since.
 
 A proof knows of other functions their contracts alone, so mutants that change the bodies of different functions are tried at once: each is
-refused if a goal of its own function is. What changes anything else, and what isn't refused so, is tried alone, by a check of the
-whole crate. The last lines name the mutants that weren't refused, and then 'N passed, M failed'.
+refused if a goal of its own function is. What changes anything else is tried alone: first on a few functions whose clauses name what
+it changes, since a crate isn't proved if one of its functions isn't. What isn't refused so is tried by a check of the whole crate. The
+last lines name the mutants that weren't refused, and then 'N passed, M failed'.
 """
 
 import os
@@ -20,7 +21,7 @@ from concurrent.futures import ThreadPoolExecutor
 from dataclasses import dataclass, field
 from pathlib import Path
 
-from specifications import listed
+from specifications import DEFINITION, WORD, listed
 
 sys.path.insert(0, str(Path(__file__).resolve().parents[1] / "tests"))
 from harness.repository import kit
@@ -32,11 +33,14 @@ SETS = ("must-fail", "more-edits")
 PARTS = ("src", "specs", "proofs")
 # How many mutants are tried at once: with more, a crate's checks would be fewer, and one wrong edit would cost more of them a second try.
 AT_ONCE = 12
+# How many functions a mutant of a definition is tried on before the whole crate is checked.
+NEAREST = 4
 
 FUNCTION = re.compile(r"^( *)(?:pub(?:\([\w:]+\))? )?(?:const )?fn (\w+)")
 IMPL = re.compile(r"^( *)impl(?:<.*?>)? (?:(\w[\w:]*)(?:<.*>)? for )?(&(?:'\w+ )?(?:mut )?)?(\w[\w:]*)")
 TRAIT = re.compile(r"^( *)(?:pub(?:\([\w:]+\))? )?trait (\w+)")
 TYPE = re.compile(r"^(?:pub(?:\([\w:]+\))? )?(?:struct|enum|trait) (\w+)", re.MULTILINE)
+CONSTANT = re.compile(r" *(?:pub(?:\([\w:]+\))? )?(?:const|static) (\w+):")
 # The prover's words for a goal that it refuses, a proof that doesn't fit any more, and a proof that only lacks what the mutant took away.
 OPEN_GOAL = re.compile(r"note: (src/\S+?):(\d+):\d+: it is not proved that")
 WRONG_PROOF = re.compile(r"(?:\./)?proofs/(\S+)/(?:Answers|Proof|Invariants)\.antt:\d+:\d+: error")
@@ -73,7 +77,7 @@ def owner_of(line):
 
 
 def functions(file, text, modules):
-    """The functions of a formatted file whose bodies stand in lines of their own. A check names a type's own methods by its module."""
+    """The functions of a formatted file whose bodies begin in lines of their own. A check names a type's own methods by its module."""
     lines, owner, found = text.split("\n"), None, []
     for number, line in enumerate(lines):
         begins = FUNCTION.match(line)
@@ -83,9 +87,9 @@ def functions(file, text, modules):
         if not begins:
             continue
         rest = range(number, len(lines))
-        last = next((at for at in rest if lines[at] == begins[1] + "}"), None)
-        body = next((at for at in rest if lines[at] == begins[1] + "{" or re.match(rf"{begins[1]}\S.*\{{$", lines[at])), None)
-        if last and body is not None and body < last:
+        last = next((at for at in rest if lines[at] in (begins[1] + "}", begins[1] + "{}")), None)
+        body = next((at for at in rest if lines[at] in (begins[1] + "{", begins[1] + "{}") or re.match(rf"{begins[1]}\S.*\{{$", lines[at])), None)
+        if last and body is not None and body <= last:
             kind, named = owner or (None, None)
             module = modules.get(kind, module_of(file)) if kind == named else module_of(file)
             found.append(Function("::".join(it for it in (module, named, begins[2]) if it), file, number + 1, body + 1, last + 1))
@@ -119,15 +123,28 @@ class Mutant:
                 self.changes.append((file, old, line.removeprefix("new:").removeprefix(" ")))
         return None if self.changes else "it changes nothing"
 
+    def places(self):
+        """The file of each change, its text, and the line in which the change begins, counted from 1."""
+        for file, old, _ in self.changes:
+            text = (CRATES / self.crate / file).read_text(encoding="utf-8")
+            yield file, text, text[: text.index(old)].count("\n") + 1
+
     def function(self, known):
         """The one function whose body alone the mutant changes, or none."""
         found = set()
-        for file, old, _ in self.changes:
-            text = (CRATES / self.crate / file).read_text(encoding="utf-8")
-            line = text[: text.index(old)].count("\n") + 1
+        for file, _, line in self.places():
             within = [it for it in known.get(file, ()) if it.body < line < it.last or it.body == line == it.last]
             found.add(max(within, key=lambda it: it.first) if within else None)
         return found.pop() if len(found) == 1 else None
+
+    def definitions(self):
+        """The names of the definitions and constants that the mutant changes."""
+        for file, text, line in self.places():
+            lines = text.split("\n")[:line]
+            if file.startswith("specs/"):
+                yield from [it[1] or it[2] for it in map(DEFINITION.match, lines) if it][-1:]
+            elif constant := CONSTANT.match(lines[-1]):
+                yield constant[1]
 
 
 class Crate:
@@ -145,6 +162,24 @@ class Crate:
         inside = {file.relative_to(self.own).as_posix(): file.read_text(encoding="utf-8") for file in sources}
         modules = {kind: module_of(file) for file, text in inside.items() for kind in TYPE.findall(text)}
         self.functions = {file: functions(file, text, modules) for file, text in inside.items()}
+        known = [it for some in self.functions.values() for it in some]
+        self.clauses = {it: words_of(inside[it.file], it.first, it.body) for it in known}
+        self.bodies = {it: words_of(inside[it.file], it.body, it.last) for it in known}
+        self.definitions = {}
+        for file in (self.own / "specs").rglob("*.antt"):
+            self.definitions |= definitions_of(file.read_text(encoding="utf-8"))
+
+    def nearest(self, mutant):
+        """Functions that a mutant is most likely to break: those in which it changes something, and then those whose clauses name what it
+        changes, or what is defined by that, the nearest first and of these the ones that say least else; or those whose bodies do."""
+        near = [it for file, _, line in mutant.places() for it in self.functions.get(file, ()) if it.first <= line <= it.last]
+        changed = names = set(mutant.definitions())
+        while names and len(near) < NEAREST:
+            users = [it for it in self.clauses if self.clauses[it] & names and it not in near]
+            near += sorted(users, key=lambda it: len(self.clauses[it]))
+            wider = names | {name for name, said in self.definitions.items() if said & names}
+            names = wider if wider != names else set()
+        return near[:NEAREST] or [it for it in self.bodies if self.bodies[it] & changed][:NEAREST]
 
     def words(self):
         """The words of a check of the crate over the libraries as built."""
@@ -194,21 +229,38 @@ class Crate:
             return [it for mutant in left for it in self.try_bodies([mutant])]
         return left
 
+    def check_alone(self, mutant, seed, *more):
+        """Checks the crate with a mutant over a copy of what is kept in a folder; returns the status, why a proof is refused, if one is
+        and the mutant itself could be read, and what was said."""
+        own = self.folder / "mutant"
+        shutil.copytree(seed, own, copy_function=linked)
+        status, said = self.check([mutant], own, *more)
+        shutil.rmtree(own)
+        refused = status == 1 and not any(UNREAD.search(line) for line in said)
+        return status, refused and next((line for line in said if OPEN_GOAL.match(line) or ": error" in line), said[-1]), said
+
+    def try_nearest(self, mutant):
+        """Tries a mutant on the functions that it is most likely to break; returns whether one of them was refused."""
+        seed, near = self.folder / "bodies", self.nearest(mutant)
+        seed.mkdir(exist_ok=True)
+        asked = [word for function in near for word in ("--only", function.name)]
+        _, why, said = self.check_alone(mutant, seed, *asked) if near else (0, None, [""])
+        if why and re.match(r"only=\d+ proved=\d+", said[-1]) and any(re.match(r"fn .*: (not proved|no proof)", line) for line in said):
+            self.refuse(mutant, why)
+        return mutant.name in self.refused
+
     def try_whole(self, mutant):
         """Tries a mutant by a check of the whole crate."""
-        seed, own = self.folder / "whole", self.folder / "mutant"
+        seed = self.folder / "whole"
         if not seed.exists():
             status, said = self.check([], seed)
             if status:
                 raise SystemExit(f"{self.name} itself isn't proved: {said[-1]}")
-        shutil.copytree(seed, own, copy_function=linked)
-        status, said = self.check([mutant], own)
-        shutil.rmtree(own)
-        unread = next((line for line in said if UNREAD.search(line)), None)
-        if status == 1 and said[-1].startswith("logic=not-proved") and not unread:
-            why = next((line for line in said if OPEN_GOAL.match(line) or ": error" in line), said[-1])
+        status, why, said = self.check_alone(mutant, seed)
+        if why and said[-1].startswith("logic=not-proved"):
             self.refuse(mutant, why)
         else:
+            unread = next((line for line in said if UNREAD.search(line)), None)
             self.keep(mutant, "the crate is still proved" if not status else f"it can't be read: {unread}" if unread else f"no verdict: {said[-1]}")
 
     def refuse(self, mutant, why):
@@ -232,12 +284,30 @@ class Crate:
                 batch[function] = mutant
             else:
                 alone.append(mutant)
+        whole = []
         for batch in batches:
-            alone += self.try_bodies(list(batch.values()))
+            whole += self.try_bodies(list(batch.values()))
+        whole += [mutant for mutant in alone if not self.try_nearest(mutant)]
         shutil.rmtree(self.folder / "bodies", ignore_errors=True)
-        for mutant in alone:
+        for mutant in whole:
             self.try_whole(mutant)
         shutil.rmtree(self.folder)
+
+
+def words_of(text, first, last):
+    """The words of these lines of a text, counted from 1."""
+    return set(WORD.findall("\n".join(text.split("\n")[first - 1 : last])))
+
+
+def definitions_of(text):
+    """The names that a file of specs defines, each with the words by which it does."""
+    lines = text.split("\n")
+    begun = [(number, it[1] or it[2]) for number, it in enumerate(map(DEFINITION.match, lines), 1) if it]
+    ends = [number - 1 for number, _ in begun[1:]] + [len(lines)]
+    found = {}
+    for (number, name), end in zip(begun, ends):
+        found.setdefault(name, set()).update(words_of(text, number, end))
+    return found
 
 
 def linked(one, other):

@@ -1,7 +1,7 @@
 //! What the calls of a queue come to, however they follow one another.
 ghost use Rattle.std.specs.Prelude.{◌≡◌, ℕ, ◌+◌, ◌-◌, ◌<◌, ◌≤◌, length};
 ghost use Rattle.fair_queue.specs.Fair.{GivesInOrder, IsGivenAfterThoseAhead, MovesUp, WaitsForOneQuantumEach, WaitsForOneQuantumPerKey};
-ghost use Rattle.fair_queue.specs.Turns.{Charges, GivesFirst, IsFair, IsPushed, QueueState, renewed};
+ghost use Rattle.fair_queue.specs.Turns.{Charges, FlowState, GivesFirst, IsFair, IsPushed, QueueState, TurnGoesOn, renewed};
 
 /// While something waits in a flow and the flow gives nothing, each other flow is charged at most a
 /// quantum and what the dearest key costs, of those that are given meanwhile and the one that was
@@ -50,4 +50,13 @@ pub fn what_a_turn_took_too_much_is_taken_off()
     ensures taken_off { (quantum credit spent : ℕ) → credit ≤ spent → spent < credit + quantum →
         renewed quantum credit spent + (spent - credit) ≡ quantum }
     ensures least { (quantum credit spent : ℕ) → 0 < quantum → 0 < renewed quantum credit spent }
+{}
+
+/// A turn ends as soon as a flow has spent what is left of its quantum, and no sooner while anything
+/// waits in it.
+pub fn a_turn_ends_once_its_quantum_is_spent()
+    ensures spent { (spent : ℕ) (flow : FlowState) → flow.credit ≤ spent →
+        ¬ (TurnGoesOn spent flow) }
+    ensures waits { (spent : ℕ) (flow : FlowState) → spent + 1 ≤ flow.credit →
+        1 ≤ length flow.ready → TurnGoesOn spent flow }
 {}

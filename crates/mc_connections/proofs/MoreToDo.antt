@@ -11,14 +11,14 @@ module _ (tenant : Option ℕ) (key : ℕ) (short : Bool) (old new : Waiting) (i
   noted : slice_get new.waits.items key ≡ Some (Some (short_with (short_at old key) short))
   noted = ap (λ (items : List (Option Bool)). slice_get items key) waits.1 ∙ set_here old.waits.items key (Some (short_with (short_at old key) short)) inside
 
-  comes : IsPushed (flow_of (length old.queue.flows) tenant) key old.queue new.queue ⊎ WaitsInLine old key × (new.queue ≡ old.queue)
+  comes : ¬ (WaitsInLine old key) × IsPushed (flow_of (length old.queue.flows) tenant) key old.queue new.queue ⊎ WaitsInLine old key × (new.queue ≡ old.queue)
   comes = ⊎_elim
-      (λ pushed. inl pushed.0)
+      (λ pushed. inl (pushed.0, pushed.2))
       (λ stays. inr (⊎_elim (λ (waited : WaitsInLine old key). waited) (λ (past : length old.waits.items ≤ key). absurd (omega (arith, inside, past))) stays.1, stays.0))
       waits.0
 
 pub comes_to_wait : (tenant : Option ℕ) (key : ℕ) (short : Bool) (old new : Waiting) → key < length old.waits.items → LetsWait tenant key short old new →
-    WaitsInLine new key × (IsPushed (flow_of (length old.queue.flows) tenant) key old.queue new.queue ⊎ WaitsInLine old key × (new.queue ≡ old.queue))
+    WaitsInLine new key × (¬ (WaitsInLine old key) × IsPushed (flow_of (length old.queue.flows) tenant) key old.queue new.queue ⊎ WaitsInLine old key × (new.queue ≡ old.queue))
 comes_to_wait tenant key short old new inside waits =
     ((short_with (short_at old key) short, noted tenant key short old new inside waits), comes tenant key short old new inside waits)
 

@@ -24,7 +24,7 @@ CameOrStayed old new = ((flow : ℕ) × (key : ℕ) × (flow < length old.flows)
 pub came_to_wait : (tenant : Option ℕ) (key : ℕ) (old new : Waiting) → 0 < length old.queue.flows → ComesToWait tenant key old new → CameOrStayed old.queue new.queue
 came_to_wait tenant key old new some waits =
     ⊎_elim
-    (λ pushed. inl (flow_of (length old.queue.flows) tenant, key, omega (arith, some), pushed.0))
+    (λ pushed. inl (flow_of (length old.queue.flows) tenant, key, omega (arith, some), pushed.2))
     (λ stays. inr stays.0)
     waits
 

@@ -1,5 +1,5 @@
 -- A queue that is fair stays so, whatever comes and whoever is served.
-use Rattle.std.proofs.Common.{◌≡◌, ◌⊎◌, ◌<◌, ◌≤◌, ℕ, Bool, List, arith, length, subst, sym, ⊎_elim}
+use Rattle.std.proofs.Common.{◌<◌, ℕ, Bool, List, arith, length, subst, sym, ⊎_elim}
 use Rattle.fair_queue.specs.Turns.{Charges, GivesFirst, IsFair, IsPushed, QueueState}
 use Rattle.mio.specs.Event.{event_token}
 use Rattle.mio.specs.declared.event.event.Event.{Event}

@@ -32,7 +32,11 @@ idled spent old new is none same (between, charged, ended) =
 pub waits_the_same : (tenant : Option ℕ) (key : ℕ) (old charged new : Waiting) → charged.queue ≡ old.queue → charged.waits.items ≡ old.waits.items → ComesToWait tenant key charged new → ComesToWait tenant key old new
 waits_the_same tenant key old charged new queue waits =
     ⊎_elim
-    (λ pushed. inl (subst (λ (queue : QueueState). IsPushed (flow_of (length queue.flows) tenant) key queue new.queue) queue pushed.0, pushed.1))
+    (λ pushed. inl (
+      λ (waited : WaitsInLine old key). pushed.0 (waited.0, subst (λ (items : _). slice_get items key ≡ Some (Some waited.0)) (sym waits) waited.1),
+      pushed.1,
+      subst (λ (queue : QueueState). IsPushed (flow_of (length queue.flows) tenant) key queue new.queue) queue pushed.2,
+    ))
     (λ stays. inr (
       stays.0 ∙ queue,
       ⊎_elim

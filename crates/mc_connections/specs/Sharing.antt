@@ -69,8 +69,8 @@ pub data RoundsLead (until : Bool) (first : Queued) : List OneServe → Queued �
 
 -- While a connection waits behind `ahead` others of its flow, over as many rounds as that takes, the
 -- serves of each other flow cost a quantum at most and what the dearest serve does, for each of
--- these others and once for the connection itself; and what the latest serve costs, which is charged
--- before the next one. That is while at most `ahead` of its flow are served.
+-- these others and once for the connection itself; and what the dearest does once more, since the
+-- latest is charged before the next one. That is while at most `ahead` of its flow are served.
 abbrev pub OthersTakeOneTurnPerConnection : Type 0
 OthersTakeOneTurnPerConnection =
     (until : Bool) (first last : Queued) (serves : List OneServe) (waiting other ahead most : ℕ) →

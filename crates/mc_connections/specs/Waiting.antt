@@ -31,10 +31,12 @@ short_with (Some earlier) short = earlier && short
 abbrev pub IsNoted : ℕ → Option Bool → Waiting → Waiting → Type 0
 IsNoted key noted old new = new.waits.items ≡ slice_set old.waits.items key noted
 
--- a connection came to wait behind those of its flow; or it waits already, or its key is none
+-- a connection that didn't wait came to wait behind those of its flow; or it waits already, or its
+-- key is none, and the queue is as it was
 abbrev pub ComesToWait : Option ℕ → ℕ → Waiting → Waiting → Type 0
 ComesToWait tenant key old new =
-    IsPushed (flow_of (length old.queue.flows) tenant) key old.queue new.queue × WaitsInLine new key
+    ¬ (WaitsInLine old key) × WaitsInLine new key
+    × IsPushed (flow_of (length old.queue.flows) tenant) key old.queue new.queue
     ⊎ (new.queue ≡ old.queue) × (WaitsInLine old key ⊎ length old.waits.items ≤ key)
 
 -- a connection came to wait, as one for which a short read is the last one or isn't; and nothing is

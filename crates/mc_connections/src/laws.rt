@@ -113,7 +113,8 @@ pub fn who_has_more_to_do_waits()
         WaitsOn Full tenant key old new → LetsWait tenant key false old new }
     ensures waits { (tenant : Option ℕ) (key : ℕ) (short : Bool) (old new : Waiting) →
         key < length old.waits.items → LetsWait tenant key short old new → WaitsInLine new key
-        × (IsPushed (flow_of (length old.queue.flows) tenant) key old.queue new.queue
+        × (¬ (WaitsInLine old key)
+        × IsPushed (flow_of (length old.queue.flows) tenant) key old.queue new.queue
         ⊎ WaitsInLine old key × (new.queue ≡ old.queue)) }
     ensures short { (tenant : Option ℕ) (key : ℕ) (old new : Waiting) →
         key < length old.waits.items → LetsWait tenant key false old new →
@@ -175,7 +176,9 @@ pub fn others_take_one_turn_each()
 
 /// The same of a connection that waits behind others of its tenant, and of rounds one after another:
 /// for each of these others, and once for the connection itself, the serves of each other tenant
-/// cost a quantum at most and what the dearest serve does, in however many rounds.
+/// cost a quantum at most and what the dearest serve does, in however many rounds; and that once
+/// more, since the latest serve is charged before the next one. The dearest is of these serves and
+/// the one just before.
 pub fn others_take_one_turn_per_connection()
     ensures { OthersTakeOneTurnPerConnection }
 {

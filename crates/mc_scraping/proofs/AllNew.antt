@@ -1,17 +1,12 @@
 -- Where a connection that began just now would give its place first, all have begun just now.
-use Rattle.std.proofs.Common.{◌≡◌, ℕ, List, [], ◌∷◌, All, Option, inl, inr, map, refl, subst, arith}
+use Rattle.std.proofs.Common.{◌≡◌, ℕ, List, [], ◌∷◌, All, Option, map, subst, arith}
 use Rattle.std.proofs.lemmas.List.Elements.{All-cons, All-head, All-tail}
 use Rattle.std.specs.declared.time.Instant.{Instant}
+use Rattle.mc_scraping.proofs.Goes.{after_new}
 use Rattle.mc_scraping.specs.Yielding.{IsFirstToYield, YieldsNoLater, holder_of}
 use Rattle.mc_scraping.specs.declared.visit.Visit.{Visit}
 use Rattle.mc_scraping.specs.declared.yielding.Holder.{Holder}
-use Rattle.mc_scraping.specs.declared.yielding.Holder.TheVariants.{Nobody, Idle, Answered, New}
-
-is_new : (holder : Holder) → YieldsNoLater New holder → holder ≡ New
-is_new Nobody later = elim later [ inl less ↦ absurd (omega (arith, less)) | inr same ↦ absurd (omega (arith, same.0)) ]
-is_new (Idle time) later = elim later [ inl less ↦ absurd (omega (arith, less)) | inr same ↦ absurd (omega (arith, same.0)) ]
-is_new (Answered time) later = elim later [ inl less ↦ absurd (omega (arith, less)) | inr same ↦ absurd (omega (arith, same.0)) ]
-is_new New later = refl
+use Rattle.mc_scraping.specs.declared.yielding.Holder.TheVariants.{New}
 
 all_are_new : (now : Instant) (visits : List (Option Visit)) → All (λ (other : Holder). YieldsNoLater New other) (map (holder_of now) visits)
     → All (λ visit. holder_of now visit ≡ New) visits
@@ -19,7 +14,7 @@ all_are_new now [] later = λ k d within. absurd (omega (arith, within))
 all_are_new now (visit ∷ visits) later =
     let P : Holder → Type 0 = λ other. YieldsNoLater New other in
     All-cons (λ visit. holder_of now visit ≡ New) visit visits
-    (is_new (holder_of now visit) (All-head P (holder_of now visit) (map (holder_of now) visits) later))
+    (after_new (holder_of now visit) (All-head P (holder_of now visit) (map (holder_of now) visits) later))
     (all_are_new now visits (All-tail P (holder_of now visit) (map (holder_of now) visits) later))
 
 pub all_new : (now : Instant) (visits read : List (Option Visit)) (place : ℕ) (holder : Holder) → read ≡ visits → holder ≡ New

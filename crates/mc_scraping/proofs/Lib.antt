@@ -1,1 +1,2 @@
 pub mod AllNew
+pub mod Goes

@@ -45,3 +45,27 @@ pub record IsFirstToYield (holders : List Holder) (place : ℕ) (holder : Holder
   pub within : place < length holders
   pub has : slice_get holders place ≡ Some holder
   pub first : All (λ (other : Holder). YieldsNoLater holder other) holders
+
+-- where a place is free, a free one is given
+abbrev pub FreePlacesGoFirst : Type 0
+FreePlacesGoFirst = (holders : List Holder) (place free : ℕ) (holder : Holder) →
+    IsFirstToYield holders place holder → slice_get holders free ≡ Some Nobody → holder ≡ Nobody
+
+-- where a holder is idle and no place is free, one that was idle for as long or longer gives its
+-- place
+abbrev pub WhoWasIdleLongestGoes : Type 0
+WhoWasIdleLongestGoes = (holders : List Holder) (place idle time : ℕ) (holder : Holder) →
+    IsFirstToYield holders place holder → slice_get holders idle ≡ Some (Idle time) →
+    (holder ≡ Nobody) ⊎ (longer : ℕ) × (holder ≡ Idle longer) × (time ≤ longer)
+
+-- one that is being answered gives its place only where all others began just now or are being
+-- answered, and took a part later or at the same time
+abbrev pub WhoIsAnsweredGoesLast : Type 0
+WhoIsAnsweredGoesLast = (holders : List Holder) (place other longer : ℕ) (holder : Holder) →
+    IsFirstToYield holders place (Answered longer) → slice_get holders other ≡ Some holder →
+    (holder ≡ New) ⊎ (time : ℕ) × (holder ≡ Answered time) × (time ≤ longer)
+
+-- one that began just now gives its place only where all did
+abbrev pub WhoIsNewStays : Type 0
+WhoIsNewStays = (holders : List Holder) (place other : ℕ) (holder : Holder) →
+    IsFirstToYield holders place New → slice_get holders other ≡ Some holder → holder ≡ New

@@ -10,6 +10,7 @@ pub use scraper::{Scraper, Stop, new_scraper};
 
 mod answering;
 pub mod boards;
+pub mod laws;
 mod memory;
 mod resting;
 pub mod scraper;

@@ -4,8 +4,8 @@ ghost use Rattle.std.specs.Duration.{as_nanos};
 
 use std::time::Duration;
 
-/// How many times as long as a round took the loop rests after it: so it takes an eighth of a
-/// processor at most, whatever strangers send.
+/// How many times as long as a round took the loop rests after it, as far as `MOST_MILLIS` lets it:
+/// so it takes an eighth of a processor at most while no round takes longer than 14 milliseconds.
 const TIMES: u32 = 7;
 
 /// How long the loop rests at most, in milliseconds.

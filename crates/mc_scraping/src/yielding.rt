@@ -12,7 +12,7 @@ pub(crate) enum Holder {
     /// No connection.
     Nobody,
     /// A connection to which nothing is being sent, and for how many nanoseconds it was of no use:
-    /// since it took the end of an answer, or else since it began.
+    /// since it last took a part of an answer, or else since it began.
     Idle(u128),
     /// A connection to which an answer is being sent, and how many nanoseconds ago it took a part.
     Answered(u128),

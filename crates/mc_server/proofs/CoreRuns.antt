@@ -33,7 +33,7 @@ are_all settings log workers all = record {
 }
 
 -- workers that have gone on are over the tables that they were opened over
-over_on : (tables : List TableState) (old new : List Worker) → AllZip Continues old new → AreOver tables old → AreOver tables new
+pub over_on : (tables : List TableState) (old new : List Worker) → AllZip Continues old new → AreOver tables old → AreOver tables new
 over_on tables [] [] on over = over
 over_on tables [] (y ∷ ys) on over = absurd on
 over_on tables (x ∷ xs) [] on over = absurd on

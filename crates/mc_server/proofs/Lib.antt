@@ -9,6 +9,7 @@ pub mod Numbered
 pub mod OwnListeners
 pub mod OwnOrder
 mod NetworkRows
+pub mod OneLog
 pub mod TenantForms
 pub mod TenantLists
 pub mod TenantParts

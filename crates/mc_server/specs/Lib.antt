@@ -4,6 +4,7 @@ pub mod CoreRuns
 pub mod Crew
 pub mod Listeners
 pub mod Logs
+pub mod OneLog
 pub mod Network
 pub mod NetworkTexts
 pub mod NetworkWords

@@ -6,6 +6,7 @@ ghost use Rattle.mc_conn.specs.declared.conn.Role.TheVariants.{Admin, Tenant};
 ghost use Rattle.mc_server.specs.CoreRuns.{AnnouncesInServedOrder, ClosedLogsAreCoreRuns, ClosedLogsDecidedNoMore, LastLogsAreCoreRuns, LastLogsComeBackOnCoreRuns, OwedRepliesAreGiven, RunsKeepOwnOrder, RunsKeepSeenOrder};
 ghost use Rattle.mc_server.specs.Listeners.{clients_asked, roles_asked};
 ghost use Rattle.mc_server.specs.NetworkWords.{NetworkAsked, NetworkGiven, admin_name, settings_asked, workers_for};
+ghost use Rattle.mc_server.specs.OneLog.{LogsAreOneLog, NextRepliesFollowFromAll};
 ghost use Rattle.mc_server.specs.TenantWord.{TenantAsked};
 ghost use Rattle.mc_programs.specs.declared.options.TheConstants.{MAX_GENERATIONS};
 ghost use Rattle.mc_server.specs.declared.generations.TheConstants.{MOST_PLACES};
@@ -56,6 +57,15 @@ pub fn each_log_is_one_run_of_the_core()
     uc_refinement::replies_are_those_of_the_run();
     uc_worker::laws::workers_go_on();
 }
+
+/// The logs of a run of `wfmc` are one log that is cut: the tables with which a log begins are those
+/// after all commands of the logs before it, in their order, each tenant's after its own ones, from
+/// empty tables on. So a reply on that log is the one that a table gives which holds only its
+/// tenant's commands, of all these logs and of that one, in log order.
+pub fn the_logs_of_a_run_are_one_log()
+    ensures stands { LogsAreOneLog }
+    ensures replies { NextRepliesFollowFromAll }
+{}
 
 /// Nothing is decided on a closed log behind the history that the next one goes on from, though it
 /// may have places left: its workers have learned all that was decided.

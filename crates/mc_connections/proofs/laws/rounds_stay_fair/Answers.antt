@@ -1,4 +1,4 @@
-use Rattle.mc_connections.proofs.StaysFair.{StaysFair, after_round, after_serve}
+use Rattle.mc_connections.proofs.StaysFair.{after_round, after_serve}
 use Rattle.mc_connections.proofs.laws.rounds_stay_fair.Goals as goal
 
 pub returns-clause-round : goal.returns-clause-round
