@@ -109,7 +109,7 @@ differential: kit ## a differential test: compares mc_schedule with an oracle ov
 wrong-definitions: ## prints which law each wrong definition of the shared log breaks: the table of docs/QUESTIONS.md; in the gate too
 	@python3 tests/wrong_definitions.py
 
-core-states: ## counts the reachable states of a small core, as many as a test of mc_replica_tests has to find; in the gate too
+core-states: ## counts the reachable states of a small core, as many as a test of uc_core_tests has to find; in the gate too
 	@python3 tests/core_states.py
 
 outliving: kit ## tests that the borrow checker refuses a replica, a reply and tables that are kept past what they borrow from, in some minutes

@@ -2,13 +2,13 @@
 """Counts the reachable states of a small core, apart from the core's code and definitions: core_states.py [WORKERS PLACES].
 
 Without words it counts those of two workers and three places, in about a second, and holds the number against the constant `STATES` of
-crates/mc_replica_tests/src/states.rt; the last line is 'N passed, M failed' then. With words it prints the number alone.
+crates/uc_core_tests/src/states.rt; the last line is 'N passed, M failed' then. With words it prints the number alone.
 
 On purpose it uses nothing of oracle/core.py: the number has to come from a second, shorter formulation of the transitions.
 
 A state is what each worker shows (phase, places learned and replayed, mark, proposals, commands announced), how many places
 were decided when it announced its latest command, how many commands the worker it has looked at had announced, and the decided
-places. The test `every_state_of_a_small_core_is_sound` of mc_replica_tests finds the same number.
+places. The test `every_state_of_a_small_core_is_sound` of uc_core_tests finds the same number.
 """
 
 import re
@@ -18,7 +18,7 @@ from collections import deque
 from harness import repository
 from harness.results import Results
 
-SOURCE = repository.ROOT / "crates/mc_replica_tests/src/states.rt"
+SOURCE = repository.ROOT / "crates/uc_core_tests/src/states.rt"
 WORKERS, PLACES = 2, 3
 IDLE, PENDING, LOOKED, STOPPED = range(4)
 

@@ -2,8 +2,8 @@
 ghost use Rattle.std.specs.Io.{StartsWith};
 ghost use Rattle.std.specs.Prelude.{◌≡◌, ◌++◌, OnOk};
 
-use crate::values::key_of;
 use mc_model::{Data, Fault, Fragments, Reply, Sink, Value, ValueList};
+use shared_tests::values::key_of;
 use std::alloc::{AllocError, Global};
 
 /// What a sink has taken, and in how many blocks.

@@ -1,10 +1,10 @@
 //! The golden examples of one table, and what a fault leaves: each row is a command as a client
 //! writes it, and the reply as the client reads it.
-use crate::values::{
-    command_of, copied, key_of, limit_of, numbered_get, numbered_set, numbered_values, text_of,
-};
 use mc_items::{Hashing, Items, Table};
 use mc_model::{Command, Fault, Item, Limits, Reply};
+use shared_tests::values::{
+    command_of, copied, key_of, limit_of, numbered_get, numbered_set, numbered_values, text_of,
+};
 use std::alloc::Global;
 use std::process::Abort;
 use std::test::Fail;

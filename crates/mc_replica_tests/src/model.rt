@@ -1,10 +1,10 @@
 //! Each constructor at its bounds, and each call that needs memory, with ample memory.
-use crate::values::{Shown, block_of, copied, copy_of, key_of, limit_of, value_of};
 use bytes::Bytes;
 use mc_model::{
     Data, Fault, Key, KeyBlock, KeyList, Limits, Settings, TenantId, ValueList, WorkerId,
     read_number,
 };
+use shared_tests::values::{Shown, block_of, copied, copy_of, key_of, limit_of, value_of};
 use std::alloc::Global;
 use std::process::Abort;
 use std::test::Fail;

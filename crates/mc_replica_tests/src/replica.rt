@@ -4,10 +4,10 @@
 ghost use Rattle.std.specs.Prelude.{◌≡◌, [], IfOk};
 ghost use Rattle.uc_cells.specs.Cells.{HasCell};
 
-use crate::values::{command_of, numbered_get, numbered_set, numbered_values, reads_as};
 use mc_items::Hashing;
 use mc_model::{Command, Entry, Fault, Limits, Reply, TenantId, Ticket, WorkerId};
 use mc_replica::Replica;
+use shared_tests::values::{command_of, numbered_get, numbered_set, numbered_values, reads_as};
 use std::alloc::Global;
 use std::process::Abort;
 use std::test::Fail;

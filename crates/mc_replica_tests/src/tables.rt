@@ -1,8 +1,8 @@
 //! Both kinds of table over the same commands, with ample memory and keys hashed at random: data
 //! are joined, a copied table shows what it holds, and a table below another stays as it is.
-use crate::values::{command_of, reads_as};
 use mc_model::{Command, Fault, Limits};
 use mc_tables::{CellItems, HashKeys, Hashing, OwnedItems, Table};
+use shared_tests::values::{command_of, reads_as};
 use std::alloc::Global;
 use std::test::Fail;
 

@@ -1,7 +1,7 @@
 //! Each reply's text, with ample memory, and what is left if memory runs out.
-use crate::values::{reads_as, value_of};
 use mc_model::{Fault, Reply, ValueList, WireNo};
 use mc_write::{refusal_text, write_reply};
+use shared_tests::values::{reads_as, value_of};
 use std::alloc::Global;
 use std::process::Abort;
 use std::test::Fail;

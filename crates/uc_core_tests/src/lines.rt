@@ -1,9 +1,9 @@
 //! Golden event lists, and what each line means.
 use crate::event_lists::{asks_for, assert_list};
 use crate::events::AMPLE;
-use crate::values::command_of;
 use mc_model::{Command, Fault, Limits};
 use mc_schedules::Action;
+use shared_tests::values::command_of;
 use std::alloc::Global;
 use std::process::Abort;
 use uc_core::Event;

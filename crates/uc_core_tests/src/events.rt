@@ -2,9 +2,9 @@
 //!
 //! Events are separated by `/`: `announce WORKER TENANT COMMAND`, where the command is what a
 //! client writes, or `read`, `look`, `propose`, `replay` or `stop` and a worker.
-use crate::values::command_of;
 use mc_model::{Fault, Limits, Phase, Reply, Settings, Ticket, WorkerId};
 use mc_write::write_reply;
+use shared_tests::values::command_of;
 use std::alloc::Global;
 use uc_core::{Core, Event, Progress};
 

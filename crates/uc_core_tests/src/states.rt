@@ -5,9 +5,9 @@
 //! a path that leads to a state that was seen before goes no further. So event lists of any length
 //! are covered.
 use crate::events::{AMPLE, Replies, opened, view_of};
-use crate::values::{command_of, key_of as key_named, text_of as reply_text};
 use mc_items::Items;
 use mc_model::{Fault, Phase, TenantId, Ticket, WorkerId};
+use shared_tests::values::{command_of, key_of as key_named, text_of as reply_text};
 use std::alloc::Global;
 use std::collections::BTreeSet;
 use std::process::Abort;
