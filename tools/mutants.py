@@ -4,10 +4,11 @@
 Usage: tools/mutants.py [CRATE | CRATE/MUTANT]..., where a crate's name stands for all of its mutants, and no word for all crates. It
 begins with the libraries that make test or make build has built, and proves those that have changed since.
 
-A proof knows of other functions their contracts alone, so mutants that change the bodies of different functions are tried at once: each is
-refused if a goal of its own function is. What changes anything else is tried alone: first on a few functions whose clauses name what
-it changes, since a crate isn't proved if one of its functions isn't. What isn't refused so is tried by a check of the whole crate. The
-last lines name the mutants that weren't refused, and then 'N passed, M failed'.
+A proof knows of other functions their contracts alone, so mutants that change the bodies of different functions are tried at once, and
+so are those of the clauses of laws, whose bodies are empty: each is refused if a goal of its own function is. What changes anything else
+is tried alone: first on a few functions whose clauses name what it changes, since a crate isn't proved if one of its functions isn't.
+What isn't refused so is tried by a check of the whole crate. The last lines name the mutants that weren't refused, and then
+'N passed, M failed'.
 """
 
 import os
@@ -61,6 +62,15 @@ class Function:
     @property
     def proofs(self):
         return self.name.replace("::", "/")
+
+    @property
+    def is_empty(self):
+        """Whether its body is one line: `{}` then, as of a law, which rests on no other function."""
+        return self.body == self.last
+
+    def has_alone(self, line):
+        """Whether a change of this line, counted from 1, is one of its proof alone: of its body, or of the clauses of an empty one."""
+        return self.first <= line <= self.last if self.is_empty else self.body < line < self.last
 
 
 def module_of(file):
@@ -130,10 +140,10 @@ class Mutant:
             yield file, text, text[: text.index(old)].count("\n") + 1
 
     def function(self, known):
-        """The one function whose body alone the mutant changes, or none."""
+        """The one function whose body alone the mutant changes, or the clauses of an empty one; or none."""
         found = set()
         for file, _, line in self.places():
-            within = [it for it in known.get(file, ()) if it.body < line < it.last or it.body == line == it.last]
+            within = [it for it in known.get(file, ()) if it.has_alone(line)]
             found.add(max(within, key=lambda it: it.first) if within else None)
         return found.pop() if len(found) == 1 else None
 
