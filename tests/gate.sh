@@ -49,6 +49,9 @@ passes() {
 # A run of tools/prove.sh that was killed leaves its rooms, which rt would take for crates; one that is at work ends first.
 mkdir -p out
 flock out/prove.lock rm -rf out/rooms
+# The longest chain of crates begins with mc_model, to which the kit gives one processor where others could begin: so it is proved first. What
+# fails here fails below.
+rt ci mc_model || true
 count rt ci
 echo "the golden tests of the built programs"
 count tests/programs.sh

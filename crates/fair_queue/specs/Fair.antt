@@ -22,7 +22,8 @@ EventsLead old [] new = new ≡ old
 EventsLead old (event ∷ events) new =
     (between : QueueState) × HappensToQueue event old between × EventsLead between events new
 
--- the flow gives nothing, and no key that was given before another gives one costs more than that
+-- the flow gives nothing, and if another does, no more than that was spent on the key given just
+-- before
 abbrev pub PassesOver : ℕ → ℕ → QueueEvent → Type 0
 PassesOver waiting most (comes flow key) = Unit {0}
 PassesOver waiting most (gives flow key spent) = (flow ≢ waiting) × (spent ≤ most)
@@ -52,7 +53,7 @@ keys_given flow (comes other key ∷ events) = keys_given flow events
 keys_given flow (gives other key spent ∷ events) =
     cond (nat_eq other flow) 1 0 + keys_given flow events
 
--- no key that was given before another gives one costs more than that
+-- if a flow gives a key, no more than that was spent on the one given just before
 abbrev pub CostsAtMost : ℕ → QueueEvent → Type 0
 CostsAtMost most (comes flow key) = Unit {0}
 CostsAtMost most (gives flow key spent) = spent ≤ most

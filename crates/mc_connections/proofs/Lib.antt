@@ -11,6 +11,7 @@ pub mod Servings
 pub mod Sharing
 pub mod OverRounds
 pub mod StaysFair
+pub mod StaysQueued
 pub mod Turning
 pub mod Workings
 pub mod Tallied

@@ -16,7 +16,7 @@ pub record StaysFair : Type 0 where
   pub charged : (spent : ℕ) (old new : QueueState) → Charges spent old new → IsFair old → IsFair new
   pub given : (flow key : ℕ) (old new : QueueState) → GivesFirst flow key old new → IsFair old → IsFair new
 
-some : (state : QueueState) → IsFair state → 0 < length state.flows
+pub some : (state : QueueState) → IsFair state → 0 < length state.flows
 some state fair = omega (arith, fair.turn)
 
 after_coming : StaysFair → (old new : QueueState) → CameOrStayed old new → IsFair old → IsFair new
@@ -30,7 +30,7 @@ after_serve stays until before after next fair =
     after_coming stays next.taken.queue after.waiting.queue
     (waited_on next.waits.state (tenant_at after.standing.connections next.key) next.key next.taken after.waiting (some next.taken.queue given) next.waits.waits) given
 
-after_event : StaysFair → (connections : Connections) (event : Event) (old new : Waiting) → NotesEvent connections event old new → IsFair old.queue → IsFair new.queue
+pub after_event : StaysFair → (connections : Connections) (event : Event) (old new : Waiting) → NotesEvent connections event old new → IsFair old.queue → IsFair new.queue
 after_event stays connections event old new notes fair =
     ⊎_elim
     (λ waits. after_coming stays old.queue new.queue (came_to_wait (tenant_at connections (event_token event).0) (event_token event).0 old new (some old.queue fair) waits.1.0) fair)

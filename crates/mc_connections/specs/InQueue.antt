@@ -19,8 +19,8 @@ pub record HasServedNext (until : Bool) (key : ℕ) (before after : Standing) (n
   pub spent : now.spent ≡ cost_of requests bytes
 
 -- a connection in this state comes to wait behind those of its tenant if it has more to do, or a
--- command that was left to the next log, as one for which a short read isn't the last one; and
--- otherwise the queue is as it was, and who waits
+-- command that was left to the next log, as one for which a short read isn't the last one; in any
+-- other state the queue and what is noted of who waits are as they were
 abbrev pub WaitsOn : State → Option ℕ → ℕ → Waiting → Waiting → Type 0
 WaitsOn Busy tenant key old new = LetsWait tenant key false old new
 WaitsOn Full tenant key old new = LetsWait tenant key false old new

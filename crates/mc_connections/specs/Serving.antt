@@ -33,11 +33,12 @@ use Rattle.uc_worker.specs.declared.worker.Worker.{Worker}
 abbrev pub connection_at : Connections → ℕ → Option Connection
 connection_at connections key = get connections.by_key key
 
--- the number of the tenant whose connection is under a key, if one is
+-- the number of the tenant that this is the role of, if it is a tenant's
 abbrev pub tenant_of : Role → Option ℕ
 tenant_of (Tenant tenant) = Some tenant
 tenant_of (Admin names) = None
 
+-- the number of the tenant whose connection is under a key, if one is
 abbrev pub tenant_at : Connections → ℕ → Option ℕ
 tenant_at connections key =
     option_and_then (λ connection. tenant_of connection.conn.role) (connection_at connections key)

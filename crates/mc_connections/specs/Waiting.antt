@@ -55,7 +55,8 @@ pub record TakesTurn (key : ℕ) (old new : Waiting) : Type 0 where
   pub given : GivesFirst flow key between new.queue
   pub taken : ¬ (WaitsInLine new key)
 
--- what is spent in a round at least is spent, and the turn ends once the last one is charged
+-- as much is spent in the round as is spent in each at least, and the turn ends once what the last
+-- serve has cost is charged
 abbrev pub IsRoundOver : Waiting → Type 0
 IsRoundOver waiting = (ROUND ≤ waiting.spent_in_round)
     × ¬ (TurnGoesOn waiting.spent (flow_at waiting.queue waiting.queue.turn))
@@ -66,3 +67,15 @@ abbrev pub EndsRound : Waiting → Waiting → Type 0
 EndsRound old new = IsRoundOver old × (new ≡ old)
     ⊎ Charges old.spent old.queue new.queue × IsIdle new.queue × (new.spent ≡ 0)
     × (new.waits.items ≡ old.waits.items)
+
+-- this key stands in the queue, in this flow, behind that many others
+abbrev pub IsQueued : Waiting → (flow ahead key : ℕ) → Type 0
+IsQueued waiting flow ahead key = slice_get (flow_at waiting.queue flow).ready ahead ≡ Some key
+
+-- The connections that are noted as waiting are those in the queue, and none is there twice.
+pub record AreQueued (waiting : Waiting) : Type 0 where
+  pub queued : (key : ℕ) → WaitsInLine waiting key →
+      (flow : ℕ) × (ahead : ℕ) × IsQueued waiting flow ahead key
+  pub waits : (flow ahead key : ℕ) → IsQueued waiting flow ahead key → WaitsInLine waiting key
+  pub once : (flow ahead other behind key : ℕ) → IsQueued waiting flow ahead key →
+      IsQueued waiting other behind key → (flow ≡ other) × (ahead ≡ behind)

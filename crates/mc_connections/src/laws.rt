@@ -2,9 +2,9 @@
 //! is the contract of a function with an empty body, or with calls of the laws from which it
 //! follows.
 ghost use mathlib.Core.Logic.{inl, inr};
-ghost use Rattle.std.specs.Prelude.{◌≡◌, ◌≢◌, ◌↔◌, ◌⊎◌, ◌+◌, ◌*◌, ◌^◌, ◌<◌, ◌≤◌, [], ◌∷◌, ◌++◌, All, Bool, None, Option, Some, false, true, ℕ, List, length, slice_get};
+ghost use Rattle.std.specs.Prelude.{◌≡◌, ◌≢◌, ◌↔◌, ◌⊎◌, ◌+◌, ◌*◌, ◌^◌, ◌<◌, ◌≤◌, [], ◌∷◌, ◌++◌, All, Bool, None, Option, Some, false, true, ℕ, List, length, replicate, slice_get};
 ghost use Rattle.fair_places.specs.Places.{MayTake, held_by, with_held};
-ghost use Rattle.fair_queue.specs.Turns.{IsFair, IsPushed};
+ghost use Rattle.fair_queue.specs.Turns.{IsFair, IsIdle, IsPushed};
 ghost use Rattle.mc_conn.specs.Ending.{BreaksInTime, LogsLast, Stops};
 ghost use Rattle.mc_conn.specs.Owed.{Mark, Owes, count_logged, demand_of, is_logged};
 ghost use Rattle.mc_conn.specs.Turn.{Scene, Takes};
@@ -24,7 +24,7 @@ ghost use Rattle.mc_connections.specs.Seen.{AreAnsweredFrom, IsAnsweredAmong, Is
 ghost use Rattle.mc_connections.specs.Serving.{HasComeTo, IsServedLater, answered_between, moved_between, scene_of, tenant_of};
 ghost use Rattle.mc_connections.specs.Sharing.{OnlyTheTurnGoesOn, OthersTakeOneTurnEach, OthersTakeOneTurnPerConnection, RoundsAreServes};
 ghost use Rattle.mc_connections.specs.Tallying.{tally_place};
-ghost use Rattle.mc_connections.specs.Waiting.{LetsWait, WaitsInLine, cost_of, flow_of, short_at};
+ghost use Rattle.mc_connections.specs.Waiting.{AreQueued, LetsWait, WaitsInLine, cost_of, flow_of, short_at};
 ghost use Rattle.mc_connections.specs.Working.{IsEmpty, KeepsPlaces, Standing, Works, standing};
 ghost use Rattle.mc_connections.specs.declared.arrival.Admission.{Admission};
 ghost use Rattle.mc_connections.specs.declared.arrival.Arrival.{Arrival};
@@ -165,8 +165,9 @@ pub fn a_serve_logs_in_time()
 {}
 
 /// While a connection waits in a flow and none of that flow is served, the serves of each other
-/// flow in a round cost a quantum at most, and twice what the dearest of them, or the one just
-/// before, does. The connections that are served in a round, one after another, are such serves.
+/// flow in a round cost a quantum at most, and twice what the dearest serve does, of all these, in
+/// whichever flow, and the one just before. The connections that are served in a round, one after
+/// another, are such serves.
 pub fn others_take_one_turn_each()
     ensures share { OthersTakeOneTurnEach }
     ensures rounds { RoundsAreServes }
@@ -197,6 +198,22 @@ pub fn rounds_stay_fair()
     fair_queue::laws::a_fair_queue_stays_fair();
 }
 
+/// Who is noted as waiting is in the queue, once, and nobody else is: so it is when the queue is
+/// new, as `ReadyQueue::new` returns it, and each round, and each serve in it, keeps that. So
+/// whoever is noted as waiting waits behind a number of others in a flow, as the bounds above have
+/// it.
+pub fn who_waits_is_queued()
+    ensures new { (waiting : Waiting) (places : ℕ) → IsIdle waiting.queue →
+        waiting.waits.items ≡ replicate places None → AreQueued waiting }
+    ensures round { (until : Bool) (events : List Event) (before after : Queued) →
+        MakesRound until events before after → IsFair before.waiting.queue →
+        AreQueued before.waiting → AreQueued after.waiting }
+    ensures serve { (until : Bool) (before after : Queued) → ServesNext until before after →
+        IsFair before.waiting.queue → AreQueued before.waiting → AreQueued after.waiting }
+{
+    fair_queue::laws::a_fair_queue_stays_fair();
+}
+
 /// Once 10,240 are spent in a round, only connections of the flow that has its turn are served in
 /// it, and only while that turn goes on.
 pub fn a_round_ends_with_a_turn()
@@ -204,8 +221,9 @@ pub fn a_round_ends_with_a_turn()
 {}
 
 /// Once an event has told of a connection that its peer has closed or that its stream has failed,
-/// a read that fills less than its buffer isn't taken for the last one, whatever other events come
-/// before the connection is served: so its end is read, of which no other event tells.
+/// no short read is noted as the last one for it, whatever other events come before it is served.
+/// So it is read to its end, of which no other event tells; that reads go by what is noted is in no
+/// clause.
 pub fn an_end_that_was_told_is_read()
     ensures ended { (connections : Connections) (first last : Waiting) (events : List Event)
         (place : ℕ) (event : Event) → HaveCome connections first events last →
@@ -261,9 +279,9 @@ pub fn connections_are_answered_so_far()
     mc_conn::laws::parts_add_up();
 }
 
-/// Each request that is to be logged was answered, unless the log is full: one that a worker took,
-/// and so each that the worker of the last of several logs took, wherever that log is taken to
-/// begin.
+/// Each request that a worker took and that is to be logged was answered, unless its log is full by
+/// then. So was each that the worker of the last of several logs took, in whichever way what is
+/// owed is split between that log and those before it.
 pub fn logged_requests_are_answered()
     ensures among { (worker : Worker) (role : Role) (from to : Mark) (requests : List Request)
         (owed : List ℕ) → Owes worker role from requests owed to → (index : ℕ)

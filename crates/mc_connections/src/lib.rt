@@ -1,6 +1,7 @@
 //! The connections of an event loop, from the first byte of each to its last: arrivals are admitted
-//! and served, and those that have ended are closed once their peers have what was sent to them.
-//! They outlive the workers that serve them, one after another, each on the next log.
+//! and served, and the streams of those that have ended are kept for a while, so that their peers
+//! may still receive what was sent to them. Connections outlive the workers that serve them, one
+//! after another, each on the next log.
 //!
 //! `specs/Serving.antt` says what becomes of a connection that is served, `specs/Working.antt` what
 //! a worker leaves of its connections, `specs/Life.antt` what a connection was sent from its first

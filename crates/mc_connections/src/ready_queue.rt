@@ -192,9 +192,10 @@ impl ReadyQueue {
     }
 
     /// Makes a round: lets the connections wait for which there is an event, and serves
-    /// connections, each tenant's in its turn, until a turn ends once half a quantum is spent, or
-    /// nobody waits. If `until_done` is set, commands are left to the next log once this one is
-    /// closing, and whose they are wait on. Returns whether the worker was woken.
+    /// connections, each tenant's in its turn, until a turn ends once half a quantum is spent,
+    /// nobody waits, or as many were served as a worker has places. If `until_done` is set,
+    /// commands are left to the next log once this one is closing, and whose they are wait on.
+    /// Returns whether the worker was woken.
     ///
     /// Returns an error if memory runs out.
     pub fn serve_round<G: Gate>(

@@ -133,7 +133,7 @@ fn role_listeners(
 
 impl Front {
     /// Returns the front of these listeners, with these settings. Between two rounds the first
-    /// workers show their numbers, each by one of the publishers.
+    /// workers show their numbers, each by one of the publishers, of which no clause speaks.
     ///
     /// Returns `Memory` if memory runs out, and `Input` if a poll or a mailbox can't be made.
     pub fn new<R: Net>(
@@ -189,6 +189,10 @@ impl Front {
     /// and the queues. Returns `Input` if a poll or a waker fails, or a listener can't be
     /// registered, and the fault of `begin` if that returns one. All loops have ended then, and
     /// every connection is closed.
+    ///
+    /// Which streams are accepted, which worker gets each, when serving ends and what a fault
+    /// leaves of the loops are in no clause: these say what workers and connections have come to
+    /// where it ends without a fault.
     pub fn serve_generation<'a, R, G, B, O>(
         &mut self,
         rt: &R,
@@ -228,7 +232,7 @@ impl Front {
         // One run of the log, from its opening, has all their calls, each worker's in order, and no
         // other events of theirs.
         ensures run { IfOk result (λ pair. AreOnOneRun pair.0.items) }
-        // It has as many event loops as before, or none after a fault, and as many tenants.
+        // It has as many event loops as before unless a fault ended it, and as many tenants.
         ensures loops { IfOk result
             (λ _. vec_len self.new.event_loops ≡ vec_len self.old.event_loops) }
         ensures tenants { self.new.tenants ≡ self.old.tenants }

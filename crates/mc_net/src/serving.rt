@@ -50,6 +50,9 @@ pub fn into_workers<'a>(
 /// because the system refuses its thread, or if memory runs out outside a connection and the
 /// queues. Returns `Input` if a poll or its waker can't be made or fails, or a listener can't be
 /// registered, and the fault of `begin` if that returns one. All loops have ended then.
+///
+/// Which streams are accepted, which worker gets each and when serving ends are in no clause: these
+/// say what workers and connections have come to where it ends without a fault.
 pub fn serve<'a, R: Threads + Wait + Net + Sync, G: Gate + Send + Drop, B: Begin<O>, O>(
     rt: &R,
     alloc: Global,

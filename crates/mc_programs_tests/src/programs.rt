@@ -1,9 +1,10 @@
 //! Whole runs of programs: their command line, what comes in, and what goes out.
-use crate::runs::{demand, input_of, output_of};
+use crate::runs::demand;
 use mc_programs::{
     Hashing, InputStep, MemoryInput, MemoryOutput, OutputStep, TurnOverAlone, run_schedule,
     run_stdin,
 };
+use shared_tests::runs::{Wanted, input_of, output_of, words_of};
 use std::alloc::{AllocError, Global};
 use std::process::Abort;
 use std::sync::Wait;
@@ -35,28 +36,6 @@ struct Streams {
     input: MemoryInput,
     output: MemoryOutput,
     errors: MemoryOutput,
-}
-
-/// What a run must leave.
-#[derive(Clone, Copy)]
-pub struct Wanted<'a> {
-    pub status: u8,
-    pub output: &'a [u8],
-    pub errors: &'a [u8],
-}
-
-fn push_word(words: &mut Vec<String>, word: &str) -> Result<(), AllocError> {
-    words.push(String::from_str(*words.allocator(), word)?)?;
-    Ok(())
-}
-
-/// Returns the words of a command line; the given ones have a space between them.
-pub fn words_of(alloc: Global, given: &str) -> Result<Vec<String>, AllocError> {
-    let mut words = Vec::new(alloc);
-    for word in given.split_terminator(' ') {
-        push_word(&mut words, word)?;
-    }
-    Ok(words)
 }
 
 fn streams_of(alloc: Global, sent: &[u8], steps: Steps) -> Result<Streams, AllocError> {

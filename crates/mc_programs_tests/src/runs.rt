@@ -1,7 +1,7 @@
-//! What tests of whole streams share: joined bytes, and the steps by which they are pulled and
-//! pushed.
+//! What tests of whole streams share: joined bytes, long streams, and the steps by which they are
+//! pulled and pushed.
 use itoa::Buffer;
-use mc_programs::{InputStep, MemoryInput, MemoryOutput, OutputStep};
+use mc_programs::{InputStep, OutputStep};
 use std::alloc::{AllocError, Global};
 use std::process::Abort;
 
@@ -27,37 +27,6 @@ pub fn single_pulls(alloc: Global, count: usize) -> Result<Vec<InputStep>, Alloc
 /// Returns steps that push `count` single bytes, with a full push before each.
 pub fn single_pushes(alloc: Global, count: usize) -> Result<Vec<OutputStep>, AllocError> {
     [OutputStep::Full, OutputStep::Take(1)].repeat(alloc, count)
-}
-
-/// Returns an input that holds these bytes, and follows these steps first.
-pub fn input_of(
-    alloc: Global,
-    sent: &[u8],
-    steps: &[InputStep],
-) -> Result<MemoryInput, AllocError> {
-    let bytes = Vec::from_slice(alloc, sent)?;
-    Ok(MemoryInput::new(bytes, Vec::from_slice(alloc, steps)?))
-}
-
-/// Returns an output that follows these steps first.
-pub fn output_of(alloc: Global, steps: &[OutputStep]) -> Result<MemoryOutput, AllocError> {
-    Ok(MemoryOutput::new(alloc, Vec::from_slice(alloc, steps)?))
-}
-
-/// A text in which `@` stands for a word that is repeated.
-#[derive(Clone, Copy)]
-pub struct Text<'a> {
-    pub form: &'a str,
-    pub word: &'a str,
-    pub times: usize,
-}
-
-impl Text<'_> {
-    /// Returns the text with its words.
-    pub fn filled(&self, alloc: Global) -> Result<String, AllocError> {
-        let word = self.word.repeat(alloc, self.times)?;
-        self.form.replace(alloc, '@', &word)
-    }
 }
 
 /// Appends a text in which `#` stands for a number and `@` for a key.
@@ -99,11 +68,4 @@ pub fn thousand_values(alloc: Global) -> Result<Vec<u8>, AllocError> {
     let stored = for_each_number(alloc, "STORED\r\n")?;
     let values = for_each_number(alloc, "VALUE k# 0 4\r\n#\r\n")?;
     joined(alloc, &[stored.as_bytes(), values.as_bytes(), b"END\r\n"])
-}
-
-/// Returns the three columns of a row, with `|` between them.
-pub fn columns<'a>(row: &'a str) -> (&'a str, &'a str, &'a str) {
-    let (first, others) = row.split_once('|').unwrap_or((row, "?"));
-    let (second, third) = others.split_once('|').unwrap_or((others, "?"));
-    (first, second, third)
 }

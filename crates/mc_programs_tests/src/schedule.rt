@@ -1,7 +1,8 @@
 //! Runs of mc_schedule: its command line, an event list, and what comes out.
-use crate::programs::{NO_STEPS, Program, Steps, Wanted, check_run};
+use crate::programs::{NO_STEPS, Program, Steps, check_run};
 use crate::runs::{joined, single_pulls, single_pushes};
 use mc_programs::{InputStep, OutputStep};
+use shared_tests::runs::Wanted;
 use std::alloc::{AllocError, Global};
 use std::process::Abort;
 use std::sync::Wait;

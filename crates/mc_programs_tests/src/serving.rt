@@ -2,14 +2,13 @@
 //! the input, the output or memory fails.
 ghost use Rattle.std.specs.Prelude.{◌≤◌, ⊤, length};
 
-use crate::runs::{
-    Text, demand, input_of, output_of, single_pulls, single_pushes, thousand_keys, thousand_values,
-};
+use crate::runs::{demand, single_pulls, single_pushes, thousand_keys, thousand_values};
 use mc_model::{Fault, Limits};
 use mc_programs::{
     Hashing, Input, InputStep, MemoryInput, MemoryOutput, Output, OutputStep, Pull, Push, TurnOver,
     TurnOverAlone, serve_client,
 };
+use shared_tests::runs::{Text, input_of, output_of};
 use std::alloc::{AllocError, Global};
 use std::process::Abort;
 use std::sync::Wait;

@@ -1,11 +1,11 @@
 //! Runs of mc_stdin: its command line, what a client sends, and what comes out.
-use crate::programs::{NO_STEPS, Program, Steps, Wanted, check_run};
+use crate::programs::{NO_STEPS, Program, Steps, check_run};
 use crate::runs::{
-    Text, columns, demand, for_each_key, joined, single_pulls, single_pushes, thousand_keys,
-    thousand_values,
+    demand, for_each_key, joined, single_pulls, single_pushes, thousand_keys, thousand_values,
 };
 use mc_model::Fault;
 use mc_programs::{InputStep, OutputStep, fault_text};
+use shared_tests::runs::{Text, Wanted, columns};
 use std::alloc::{AllocError, Global};
 use std::process::Abort;
 use std::sync::Wait;

@@ -59,7 +59,7 @@ WhoWasIdleLongestGoes = (holders : List Holder) (place idle time : ℕ) (holder 
     (holder ≡ Nobody) ⊎ (longer : ℕ) × (holder ≡ Idle longer) × (time ≤ longer)
 
 -- one that is being answered gives its place only where all others began just now or are being
--- answered, and took a part later or at the same time
+-- answered, and were idle for as long or shorter
 abbrev pub WhoIsAnsweredGoesLast : Type 0
 WhoIsAnsweredGoesLast = (holders : List Holder) (place other longer : ℕ) (holder : Holder) →
     IsFirstToYield holders place (Answered longer) → slice_get holders other ≡ Some holder →

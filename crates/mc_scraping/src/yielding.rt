@@ -14,7 +14,8 @@ pub(crate) enum Holder {
     /// A connection to which nothing is being sent, and for how many nanoseconds it was of no use:
     /// since it last took a part of an answer, or else since it began.
     Idle(u128),
-    /// A connection to which an answer is being sent, and how many nanoseconds ago it took a part.
+    /// A connection to which an answer is being sent, and for how many nanoseconds it was of no
+    /// use, counted in the same way.
     Answered(u128),
     /// A connection that began just now. It keeps its place for a round, to be served in.
     New,

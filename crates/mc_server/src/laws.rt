@@ -58,10 +58,11 @@ pub fn each_log_is_one_run_of_the_core()
     uc_worker::laws::workers_go_on();
 }
 
-/// The logs of a run of `wfmc` are one log that is cut: the tables with which a log begins are those
-/// after all commands of the logs before it, in their order, each tenant's after its own ones, from
-/// empty tables on. So a reply on that log is the one that a table gives which holds only its
-/// tenant's commands, of all these logs and of that one, in log order.
+/// The logs of a run of `wfmc`, which followed one another as `LogsWere` says, are one log that is
+/// cut: the tables with which a log begins are those after all commands of the logs before it, in
+/// their order, each tenant's after its own ones, from empty tables on. So a reply on that log is
+/// the one that a table gives which holds only its tenant's commands, of all these logs and of that
+/// one, in log order.
 pub fn the_logs_of_a_run_are_one_log()
     ensures stands { LogsAreOneLog }
     ensures replies { NextRepliesFollowFromAll }

@@ -238,14 +238,16 @@ fn tell_stop<R: Wait, E: Output>(rt: &R, stop: Stop, errors: &mut E)
 /// those who scrape metrics, and then `ready`, all of it once every worker's loop has begun. With
 /// `--connections N` above 0 it ends once N connections of tenants were accepted and every
 /// connection has ended: then the workers meet, `done L` is printed, where L is how many places of
-/// all logs were used, and the status is 0. Otherwise it doesn't end.
+/// all logs were used, and the status is 0. Otherwise it doesn't end. That it listens, when it
+/// prints and when it ends are in no clause.
 ///
 /// A tenant's word or an address of another form, a number out of its range, or a name that is used
 /// twice, `admin` among them if there are administrators and `metrics` if metrics are scraped, is
 /// reported on `errors` as `wfmc: bad settings`, with status 2, and an address that can't be
 /// listened on as `wfmc: cannot listen NAME`, with status 1; nothing is printed then. If memory
 /// runs out, a worker's loop doesn't begin within about ten seconds, waiting for connections fails,
-/// or the output fails, that is reported as `wfmc: TEXT`, with status 1.
+/// random numbers for the listener for metrics are refused, or the output fails, that is reported
+/// as `wfmc: TEXT`, with status 1.
 ///
 /// With `--check` it serves nothing. It prints that the words can be served, with status 0, or
 /// reports on `errors` one of them that can't and why, with status 2.

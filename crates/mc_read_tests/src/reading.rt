@@ -2,12 +2,12 @@
 //! every place, in pieces that are copied and in pieces that are shared.
 ghost use Rattle.std.specs.Prelude.{◌<◌};
 
-use crate::runs::{Text, columns};
 use bytes::Bytes;
 use itoa::Buffer;
 use mc_model::{Command, Data, Fault, Key, KeyList, Limits, Name, Reply, Request, Verb};
 use mc_read::{Reader, Speaker};
 use mc_write::refusal_text;
+use shared_tests::runs::{Text, columns};
 use std::process::Abort;
 use std::test::Fail;
 

@@ -1,9 +1,9 @@
 //! The requests of an administrator's lines: each stream is read byte by byte, and cut in two at
 //! every place. And tenants by their names.
 use crate::reading::{check_of, check_rows, check_texts};
-use crate::runs::Text;
 use mc_model::{Fault, Name, Names, Request, TenantId};
 use mc_read::{Reader, Speaker};
+use shared_tests::runs::Text;
 use std::alloc::Global;
 
 #[test]

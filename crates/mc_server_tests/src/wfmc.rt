@@ -1,9 +1,8 @@
 //! Runs of wfmc that end before it serves: its command line, and addresses at which it can't
 //! listen.
-use crate::programs::{Wanted, words_of};
-use crate::runs::output_of;
 use mc_programs::{Hashing, OutputStep};
 use mc_server::run_wfmc;
+use shared_tests::runs::{Wanted, output_of, words_of};
 use std::alloc::AllocError;
 use std::fs::Files;
 use std::net::Net;

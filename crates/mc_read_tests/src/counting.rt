@@ -2,10 +2,10 @@
 //! pieces of every size.
 ghost use Rattle.std.specs.Prelude.{◌<◌};
 
-use crate::runs::{Text, columns};
 use bytes::Bytes;
 use mc_model::Fault;
 use mc_read::Reader;
+use shared_tests::runs::{Text, columns};
 use std::alloc::Global;
 use std::process::Abort;
 
