@@ -142,9 +142,9 @@ def unknown_names():
 
 
 def can_fail(item):
-    """Whether an item is a call that answers a fault."""
+    """Whether an item is a call that answers a fault or an error of the system."""
     head, arrow, result = item.signature.partition("->")
-    return " fn " in f" {head}" and re.search(r"\bResult<.*\b(Fault|RunFault|AllocError)>", result) is not None
+    return " fn " in f" {head}" and "Result<" in result
 
 
 def wrong_faults():

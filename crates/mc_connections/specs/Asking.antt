@@ -42,7 +42,8 @@ pub record WasAsked (worker : Worker) (ended : List Connection)
   pub logged : IsLogged worker connection.conn.role asked number
   pub asks : HasRequest connection request asked
 
--- A command: which of the logs it is on, and the number under which that log's worker announced it.
+-- A command: which of the workers that served one after another announced it, counted from 0, and
+-- its number there. Where the last log was served twice, its worker counts as two.
 pub record Announcement : Type 0 where
   pub log : ℕ
   pub number : ℕ
@@ -60,10 +61,10 @@ pub record IsAnnounced (before after : List Worker) (which : Announcement)
 abbrev pub IsEarlier : Announcement → Announcement → Type 0
 IsEarlier one two = (one.log < two.log) ⊎ (one.log ≡ two.log) × (one.number < two.number)
 
--- Workers went from `before` to `after`, one after another, each on the next log. Each command that
--- they have announced meanwhile was asked for by one connection that they served, and those of one
--- connection were announced in the order in which it asked for them: so no request was carried out
--- twice.
+-- Workers went from `before` to `after`, one after another, each on the next log or once more on
+-- the last. Each command that they have announced meanwhile was asked for by one connection that has
+-- ended, and those of one connection were announced in the order in which it asked for them: so no
+-- request was carried out twice.
 pub record HaveBeenAsked (before after : List Worker) (ended : List Connection) : Type 0 where
   pub asker : Announcement → ℕ
   pub request : Announcement → ℕ

@@ -4,8 +4,8 @@ use Rattle.mc_connections.specs.Working.{IsUnused, Works, standing}
 use Rattle.mc_connections.specs.declared.connections.Connections.{Connections}
 use Rattle.uc_worker.specs.declared.worker.Worker.{Worker}
 
--- The workers that served at an event loop one after another, each on the next log: as each was
--- when it began there, and as it was when it had served.
+-- The workers that served at an event loop one after another, each on the next log or, where none
+-- could follow, once more on the last: as each was when it began there, and when it had served.
 pub record InTurn : Type 0 where
   pub begun : List Worker
   pub served : List Worker
@@ -14,7 +14,7 @@ pub record InTurn : Type 0 where
 abbrev pub nobody : InTurn
 nobody = record { begun = []; served = [] }
 
--- and then one more did, on the next log
+-- and then one more did
 abbrev pub followed_by : InTurn → Worker → Worker → InTurn
 followed_by who before after =
     record { begun = who.begun ++ before ∷ []; served = who.served ++ after ∷ [] }

@@ -39,7 +39,8 @@ pub data OwesInParts (worker : Worker) (role : Role) : List Request → List ℕ
       OwesInParts worker role (requests ++ more) (bytes ++ others) last
 
 -- The same over logs that followed one another, each with its own worker: the worker of the first
--- log took the first requests in parts, and those of the other logs took the rest.
+-- log took the first requests in parts, and those of the other logs took the rest. A log that was
+-- served twice counts as two here, and that its second part comes later isn't said.
 pub data OwesInLogs (role : Role) : List Worker → List Request → List ℕ → Type 0 where
   no_log : OwesInLogs role [] [] []
   next_log : (worker : Worker) (workers : List Worker) (requests more : List Request)

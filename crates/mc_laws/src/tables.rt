@@ -431,7 +431,8 @@ pub fn numbers_keep_the_flags()
 {}
 
 /// A decr undoes an incr by the same number that didn't wrap, if no command in between has changed
-/// or removed the key and the table is within its quotas.
+/// or removed the key and the table is within its quotas: it gives back the number, and not how that
+/// was spelled (`007` is `7` then).
 pub fn decr_undoes_incr()
     ensures { (opening : Limits) (earlier between : List Command) (key : Key) (old : Item)
         (number by : ℕ) →

@@ -128,8 +128,9 @@ IsDecidedSoon more old =
     StandsBefore (length old.shown.decided + more)
     (ticket_of number (announced_by old.shown number)) new.shown.decided
 
--- settings of two workers and more, of no fewer places than workers, and of a tenant. Without the
--- first no command waits for another's, and without the others no bound says anything.
+-- settings of two workers and more, of no fewer places than workers, and of a tenant. A worker alone
+-- waits for no other command, in fewer places this bound says nothing, and without a tenant there is
+-- no command.
 abbrev pub AreOfSeveral : Configuration → Type 0
 AreOfSeveral settings = (1 < settings.workers) × (settings.workers ≤ settings.places)
     × (0 < length settings.tenants)
@@ -210,8 +211,9 @@ abbrev pub StepsLeadOn : CoreState → Type 0
 StepsLeadOn core = (event : Event) → refusal core event ≡ None →
     (new : CoreState) × (reply : Option Reply) × CoreStep core event new reply
 
--- No worker waits for another: what it may do depends on its own shown state, and on whether it has
--- places left. An announcement that finds none left is reported `LogFull`.
+-- No worker waits for another: what it may do depends on its own shown state, on how much it has
+-- replayed, on whether the tenant is there, and on whether it has places left. An announcement that
+-- finds none left is reported `LogFull`.
 pub record NobodyWaits (core : CoreState) (number : ℕ) (worker : WorkerState)
     (replay : ReplayState) : Type 0 where
   pub announces : (tenant : ℕ) (command : Command) → worker.phase ≡ Idle →
