@@ -5,10 +5,10 @@ Usage: tools/mutants.py [CRATE | CRATE/MUTANT]..., where a crate's name stands f
 begins with the libraries that make test or make build has built, and proves those that have changed since.
 
 A proof knows of other functions their contracts alone, so mutants that change the bodies of different functions are tried at once, and
-so are those of the clauses of laws, whose bodies are empty: each is refused if a goal of its own function is. What changes anything else
-is tried alone: first on a few functions whose clauses name what it changes, since a crate isn't proved if one of its functions isn't.
-What isn't refused so is tried by a check of the whole crate. The last lines name the mutants that weren't refused, and then
-'N passed, M failed'.
+so are those of the clauses of laws, whose bodies are empty: each is refused if a goal of its own function is. What changes anything else,
+or isn't refused so, is tried alone: first on a few functions, its own or those whose clauses name what it changes, since a crate isn't
+proved if one of its functions isn't; and then by a check of the whole crate. The last lines name the mutants that weren't refused, and
+then 'N passed, M failed'.
 """
 
 import os
@@ -294,10 +294,8 @@ class Crate:
                 batch[function] = mutant
             else:
                 alone.append(mutant)
-        whole = []
-        for batch in batches:
-            whole += self.try_bodies(list(batch.values()))
-        whole += [mutant for mutant in alone if not self.try_nearest(mutant)]
+        alone += [mutant for batch in batches for mutant in self.try_bodies(list(batch.values()))]
+        whole = [mutant for mutant in alone if not self.try_nearest(mutant)]
         shutil.rmtree(self.folder / "bodies", ignore_errors=True)
         for mutant in whole:
             self.try_whole(mutant)
