@@ -1,8 +1,9 @@
 -- The events of the log as transitions from one shown state to the next, and the reachable states.
--- Each event is one operation on one word: an announcement increments the worker's own word,
--- reading and looking load a word, a proposal is one compare-exchange of a place's word, which a
--- decided place refuses (Herlihy, Wait-Free Synchronization, TOPLAS 1991: announce, consensus,
--- round-robin helping).
+-- An announcement counts one more command of its worker; reading and looking tell the worker what
+-- stands at its next place, and how many commands the worker has announced whose turn it is there;
+-- a proposal decides that place, unless it is decided (Herlihy, Wait-Free Synchronization, TOPLAS
+-- 1991: announce, consensus, round-robin helping). Which operations on words these are is not said
+-- here.
 use Rattle.std.specs.Prelude.{◌≡◌, ◌≢◌, ◌⊎◌, ℕ, ◌%◌, ◌<◌, List, [], ◌∷◌, ◌++◌, length, slice_get, slice_set, Option, Some, None}
 use Rattle.std.specs.Option.{option_map_or}
 use Rattle.mc_model.specs.declared.id.Ticket.{Ticket}

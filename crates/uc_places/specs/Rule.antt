@@ -1,5 +1,5 @@
 -- The invariant of the shared words. At every moment there is a run of the log from its opening, of
--- which six things hold.
+-- which seven things hold.
 --   The words show the state that it leads to (`Shows`): how many commands each worker has
 --   announced, and which ticket stands at each place.
 --   Each worker's one seat shows its worker: what the seat knows of its worker is exactly that
@@ -8,6 +8,7 @@
 --   there to the present state.
 --   Each seat keeps its calls, and these, in order, are exactly the run's events of its worker.
 --   The run begins with the events that a seat has witnessed.
+--   The log begins with the list of decided places that was shared with a seat.
 --   Each worker has a seat: its own, one into which that was joined, or the spare one until its own
 --   is given out. So the run has no event that isn't a call of a seat.
 -- So a call can only be one event of its own worker, from a reachable state, and only events of
