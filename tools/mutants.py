@@ -38,7 +38,9 @@ AT_ONCE = 12
 NEAREST = 4
 
 FUNCTION = re.compile(r"^( *)(?:pub(?:\([\w:]+\))? )?(?:const )?fn (\w+)")
-IMPL = re.compile(r"^( *)impl(?:<.*?>)? (?:(\w[\w:]*)(?:<.*>)? for )?(&(?:'\w+ )?(?:mut )?)?(\w[\w:]*)")
+IMPL = re.compile(r"^ *impl(?:<(.*?)>)? (?:(\w[\w:]*)(?:<(.*)>)? for )?(&(?:'\w+ )?(?:mut )?)?(\w[\w:]*)(?:<(.*)>)?")
+PARAMETER = re.compile(r"(?:^|,) *(\w+)(?=:|,|$)")
+ARGUMENT = re.compile(r"(?:^|,) *(\w[\w:]*|\(\))")
 TRAIT = re.compile(r"^( *)(?:pub(?:\([\w:]+\))? )?trait (\w+)")
 TYPE = re.compile(r"^(?:pub(?:\([\w:]+\))? )?(?:struct|enum|trait) (\w+)", re.MULTILINE)
 CONSTANT = re.compile(r" *(?:pub(?:\([\w:]+\))? )?(?:const|static) (\w+):")
@@ -78,10 +80,14 @@ def module_of(file):
 
 
 def owner_of(line):
-    """The type, and the trait after it, to which the functions of a block that begins in this line belong, as a check names them."""
+    """The type, and the trait after it with the types that it is given, to which the functions of a block that begins in this line belong,
+    as a check names them."""
     if begins := IMPL.match(line):
-        kind = "RefMut" if "mut" in (begins[3] or "") else "Ref" if begins[3] else begins[4].split("::")[-1]
-        return kind, kind + (begins[2] or "").split("::")[-1]
+        kind = "RefMut" if "mut" in (begins[4] or "") else "Ref" if begins[4] else begins[5].split("::")[-1]
+        of_trait, of_type = ([it for it in ARGUMENT.findall(some or "") if it not in PARAMETER.findall(begins[1] or "")] for some in (begins[3], begins[6]))
+        if not begins[2]:
+            return kind, "+".join((kind, *of_type))
+        return kind, kind + "".join("Unit" if it == "()" else it.split("::")[-1] for it in (begins[2], *of_trait))
     begins = TRAIT.match(line)
     return begins and (begins[2], begins[2])
 
