@@ -24,7 +24,7 @@ use Rattle.mc_connections.specs.declared.arrival.Arrival.{Arrival}
 use Rattle.mc_connections.specs.declared.past_connections.PastConnections.{PastConnections}
 use Rattle.mc_connections.specs.declared.connection.Connection.{Connection}
 use Rattle.mc_connections.specs.declared.connections.Connections.{Connections}
-use Rattle.mc_connections.proofs.Lives.{IsSound, PartsAddUp, continues_self, nothing_at, reads_from_earlier, same_key, sound_in_turn, sound_working}
+use Rattle.mc_connections.proofs.Lives.{IsSound, OfAny, PartsAddUp, at_key, at_others, continues_self, ends_anywhere, nothing_at, pick, reads_from_earlier, same_key, sound_in_turn, sound_working, with_at}
 use Rattle.mc_connections.proofs.Numbers.{IsAt, Numbers, met_numbers, owed_numbers, taken_numbers}
 use Rattle.mc_conn.specs.Cited.{ReadsAs}
 use Rattle.mc_stream.specs.Event.{moved}
@@ -34,32 +34,10 @@ use Rattle.uc_worker.specs.declared.worker.Worker.{Worker}
 use Rattle.uc_worker.specs.Worker.{announced_of, sighting_of}
 
 module _ {X : Type 0} where
-  at_behind : (front list : List X) (place there : ℕ) (x : X) → there ≡ length front + place → slice_get list place ≡ Some x → slice_get (front ++ list) there ≡ Some x
+  pub at_behind : (front list : List X) (place there : ℕ) (x : X) → there ≡ length front + place → slice_get list place ≡ Some x → slice_get (front ++ list) there ≡ Some x
   at_behind [] list place there x is at = ap (slice_get list) (let same : there ≡ place = omega (arith, is) in same) ∙ at
   at_behind (y ∷ front) list place zero x is at = let no : ⊥ = omega (arith, is) in absurd no
   at_behind (y ∷ front) list place (suc there) x is at = at_behind front list place there x (omega (arith, is)) at
-
-  -- a function, but for one number
-  abbrev pick : {P Q : Type 0} → X → X → P ⊎ Q → X
-  pick one other (inl is) = one
-  pick one other (inr not) = other
-
-  abbrev with_at : (ℕ → X) → ℕ → X → ℕ → X
-  with_at each key x number = pick x (each number) (same_key number key)
-
-  picks_one : (number key : ℕ) (one other : X) (either : (number ≡ key) ⊎ (number ≢ key)) → number ≡ key → pick one other either ≡ one
-  picks_one number key one other (inl is) same = refl
-  picks_one number key one other (inr not) same = absurd (not same)
-
-  picks_other : (number key : ℕ) (one other : X) (either : (number ≡ key) ⊎ (number ≢ key)) → number ≢ key → pick one other either ≡ other
-  picks_other number key one other (inl is) apart = absurd (apart is)
-  picks_other number key one other (inr not) apart = refl
-
-  at_key : (each : ℕ → X) (key : ℕ) (x : X) (number : ℕ) → number ≡ key → with_at each key x number ≡ x
-  at_key each key x number is = picks_one number key x (each number) (same_key number key) is
-
-  at_others : (each : ℕ → X) (key : ℕ) (x : X) (number : ℕ) → number ≢ key → with_at each key x number ≡ each number
-  at_others each key x number not = picks_other number key x (each number) (same_key number key) not
 
 -- a worker, the connection under each key, and what has ended
 record View : Type 0 where
@@ -221,7 +199,7 @@ was_asked_on before after on ended number asker request asked = record {
 }
 
 -- a number is below another, or above it by some number
-below_or_above : (number high : ℕ) → (number < high) ⊎ ((i : ℕ) × (number ≡ high + i))
+pub below_or_above : (number high : ℕ) → (number < high) ⊎ ((i : ℕ) × (number ≡ high + i))
 below_or_above zero zero = inr (0, omega arith)
 below_or_above zero (suc high) = inl (omega arith)
 below_or_above (suc number) zero = inr (suc number, omega arith)
@@ -576,7 +554,7 @@ asking_at until past from before after state key (Some old) None asking opened w
     same_past)
     (asking_gone past from (view after.worker (with_at live key (Some last)) before.connections.ended.connections) then key last (at_key live key (Some last) key refl))
 
-asking_serving : (until : Bool) (past : InTurn) (from : ℕ) (before after : Standing) → IsSound past.served before → Asking past from (view_of before) → ServesOne until before after → Asking past from (view_of after)
+asking_serving : (until : Bool) (past : InTurn) (from : ℕ) (before after : Standing) → IsSound OfAny ends_anywhere past.served before → Asking past from (view_of before) → ServesOne until before after → Asking past from (view_of after)
 asking_serving until past from before after sound asking one =
     asking_at until past from before after one.state one.key (connection_at before.connections one.key) (connection_at after.connections one.key) asking
     (λ connection at. (sound.lives one.key connection at).going) refl refl one.serves.others one.serves.becomes
@@ -589,7 +567,7 @@ asking_catching past from before after asking caught =
     (ap (λ (connections : Connections). connections.ended.connections) caught.connections))
     (asking_caught past from (view_of before) asking after.worker caught.worker)
 
-asking_working : (until : Bool) (past : InTurn) (from : ℕ) (first last : Standing) → IsSound past.served first → Asking past from (view_of first) → Works until first last → Asking past from (view_of last)
+asking_working : (until : Bool) (past : InTurn) (from : ℕ) (first last : Standing) → IsSound OfAny ends_anywhere past.served first → Asking past from (view_of first) → Works until first last → Asking past from (view_of last)
 asking_working until past from first _ sound asking begins = asking
 asking_working until past from first _ sound asking (goes_on between last works step) =
     let so_far = asking_working until past from first between sound asking works in

@@ -15,7 +15,7 @@ use Rattle.uc_worker.specs.declared.worker.Worker.{Worker}
 
 module _ {X : Type 0} where
   -- what stands in one list and then another stands in the one or in the other
-  at_either : (list more : List X) (place : ℕ) (x : X) → slice_get (list ++ more) place ≡ Some x →
+  pub at_either : (list more : List X) (place : ℕ) (x : X) → slice_get (list ++ more) place ≡ Some x →
       (slice_get list place ≡ Some x) ⊎ ((there : ℕ) × (place ≡ length list + there) × (slice_get more there ≡ Some x))
   at_either [] more place x at = inr (place, omega arith, at)
   at_either (y ∷ list) more zero x at = inl at
@@ -26,7 +26,7 @@ module _ {X : Type 0} where
   in_three : (list first second rest : List X) → list ≡ first ++ rest → (begins : BeginsWith rest second) → BeginsWith list (first ++ second)
   in_three list first second rest is begins = (begins.0, is ∙ ap (λ (more : List X). first ++ more) begins.1 ∙ sym (append_assoc first second begins.0))
 
-  abbrev rest_of : List X → List X
+  abbrev pub rest_of : List X → List X
   rest_of [] = []
   rest_of (x ∷ list) = list
 

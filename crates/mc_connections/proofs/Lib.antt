@@ -9,7 +9,10 @@ pub mod Rounds
 pub mod SeenInOrder
 pub mod Servings
 pub mod Sharing
+pub mod OneRequest
 pub mod OverRounds
+pub mod Owners
+pub mod OwnAnnouncements
 pub mod StaysFair
 pub mod StaysQueued
 pub mod Turning

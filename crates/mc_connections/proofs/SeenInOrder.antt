@@ -15,7 +15,7 @@ use Rattle.mc_connections.specs.Serving.{scene_of}
 use Rattle.mc_connections.specs.Working.{Standing, Works, standing}
 use Rattle.mc_connections.specs.declared.connection.Connection.{Connection}
 use Rattle.mc_connections.specs.declared.connections.Connections.{Connections}
-use Rattle.mc_connections.proofs.Lives.{PartsAddUp, ended_so_far, lives_so_far, sound_in_turn, sound_working}
+use Rattle.mc_connections.proofs.Lives.{OfAny, PartsAddUp, ended_so_far, lives_so_far, sound_in_turn, sound_working}
 use Rattle.mc_connections.proofs.Servings.{served_onward}
 use Rattle.uc_worker.specs.Going.{Continues}
 use Rattle.uc_worker.specs.Worker.{announced_of, history_of}
@@ -26,7 +26,7 @@ pub sent_so_far : PartsAddUp → (who : InTurn) (connections : Connections) (unt
     HaveServedInTurn who connections → Works until (standing begun connections) now → IsThere now connection → WasSent (who.served ++ now.worker ∷ []) connection
 sent_so_far laws who connections until begun now connection served works there =
     let sound = sound_working until who.served (standing begun connections) now (sound_in_turn laws who connections served begun) works in
-    ⊎_elim (λ live. lives_so_far who.served now.worker connection (sound.lives live.0 connection live.1)) (λ past. ended_so_far who.served now sound connection past.0 past.1) there
+    ⊎_elim (λ live. lives_so_far (OfAny 0) who.served now.worker connection (sound.lives live.0 connection live.1)) (λ past. ended_so_far who.served now sound connection past.0 past.1) there
 
 mark_onward : (from next : Mark) (place : ℕ) → next ≡ record { number = from.number + 1; place = place } → from.place ≤ place → IsBehind from next
 mark_onward from next place is far =
@@ -52,7 +52,7 @@ demand_onward worker from to (Logs tenant command quiet) bytes Later on (reply, 
     (omega (arith, one.0, later.0), omega (arith, one.1, later.1))
 demand_onward worker from to (Says said) bytes Later on (rest, are, more) = on from rest more
 
-owes_onward : (worker : Worker) (role : Role) (from to : Mark) (requests : List Request) (bytes : List ℕ) → Owes worker role from requests bytes to → IsBehind from to
+pub owes_onward : (worker : Worker) (role : Role) (from to : Mark) (requests : List Request) (bytes : List ℕ) → Owes worker role from requests bytes to → IsBehind from to
 owes_onward worker role from to [] bytes owes = (omega (arith, owes.1), owes.2)
 owes_onward worker role from to (request ∷ requests) bytes owes =
     demand_onward worker from to (demand_of role request) bytes (λ next rest. Owes worker role next requests rest to)

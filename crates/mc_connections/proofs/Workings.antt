@@ -53,7 +53,7 @@ becomes_onward until before after state None new (gone, still, idle, ended) = su
 becomes_onward until before after state (Some old) (Some new) (later, isnt, ended) = served_onward _ _ later.served.how
 becomes_onward until before after state (Some old) None (last, ended, later, closed) = served_onward _ _ later.served.how
 
-step_onward : (until : Bool) (before after : Standing) → TakesIn before after ⊎ ServesOne until before after ⊎ KeepsUp before after → Continues before.worker after.worker
+pub step_onward : (until : Bool) (before after : Standing) → TakesIn before after ⊎ ServesOne until before after ⊎ KeepsUp before after → Continues before.worker after.worker
 step_onward until before after =
     ⊎_elim
     (λ (taken : TakesIn before after). subst (Continues before.worker) (sym taken.worker) (continues_self-value.it before.worker))

@@ -57,14 +57,14 @@ pub record IsAnnounced (before after : List Worker) (which : Announcement)
   pub since : length (announced_of first) ≤ which.number
   pub by_now : which.number < length (announced_of worker)
 
--- one was announced before the other: on an earlier log, or under an earlier number
+-- one was announced before the other: by a worker that served earlier, or under an earlier number
 abbrev pub IsEarlier : Announcement → Announcement → Type 0
 IsEarlier one two = (one.log < two.log) ⊎ (one.log ≡ two.log) × (one.number < two.number)
 
 -- Workers went from `before` to `after`, one after another, each on the next log or once more on
--- the last. Each command that they have announced meanwhile was asked for by one connection that has
--- ended, and those of one connection were announced in the order in which it asked for them: so no
--- request was carried out twice.
+-- the last. Each command that they have announced meanwhile was asked for by one connection that
+-- has ended, and those of one connection were announced in the order in which it asked for them: so
+-- no request was carried out twice.
 pub record HaveBeenAsked (before after : List Worker) (ended : List Connection) : Type 0 where
   pub asker : Announcement → ℕ
   pub request : Announcement → ℕ

@@ -3,7 +3,7 @@
 -- That they are answered over a log which many share is Herlihy's construction (Wait-Free
 -- Synchronization, TOPLAS 1991).
 use Rattle.std.specs.List.{list_any}
-use Rattle.std.specs.Prelude.{◌≡◌, ◌⊎◌, ℕ, ◌≤◌, true, List, [], ◌∷◌, ◌++◌}
+use Rattle.std.specs.Prelude.{◌≡◌, ◌⊎◌, ⊤, ℕ, suc, ◌<◌, ◌≤◌, true, List, [], ◌∷◌, ◌++◌, length, Some, slice_get}
 use Rattle.mc_conn.specs.Alone.{first_mark}
 use Rattle.mc_conn.specs.Held.{lines_of}
 use Rattle.mc_conn.specs.ConnFault.{CellTaken, ConnFault, InputFailed, OutOfMemory, OutputFailed}
@@ -16,6 +16,7 @@ use Rattle.mc_model.specs.declared.request.Request.{Request}
 use Rattle.mc_connections.specs.declared.connection.Connection.{Connection}
 use Rattle.mc_conn.specs.Cited.{ReadsAs, ends_stream, text}
 use Rattle.mc_stream.specs.Event.{failures, has_ended, moved}
+use Rattle.uc_worker.specs.Worker.{announced_of}
 use Rattle.uc_worker.specs.declared.worker.Worker.{Worker}
 
 -- all bytes that came from the client, and all that were sent to it
@@ -40,13 +41,28 @@ pub data OwesInParts (worker : Worker) (role : Role) : List Request → List ℕ
 
 -- The same over logs that followed one another, each with its own worker: the worker of the first
 -- log took the first requests in parts, and those of the other logs took the rest. A log that was
--- served twice counts as two here, and that its second part comes later isn't said.
+-- served twice counts as two here; that its second part comes later isn't said here.
 pub data OwesInLogs (role : Role) : List Worker → List Request → List ℕ → Type 0 where
   no_log : OwesInLogs role [] [] []
   next_log : (worker : Worker) (workers : List Worker) (requests more : List Request)
       (bytes others : List ℕ) (to : Mark) → OwesInParts worker role requests bytes to →
       OwesInLogs role workers more others →
       OwesInLogs role (worker ∷ workers) (requests ++ more) (bytes ++ others)
+
+-- of each part, each number from its first mark on and below its last one is one of the given ones
+abbrev pub PartsAreUnder : {worker : Worker} {role : Role} {requests : List Request}
+    {bytes : List ℕ} {to : Mark} → (ℕ → Type 0) → OwesInParts worker role requests bytes to → Type 0
+PartsAreUnder Own none_yet = ⊤
+PartsAreUnder Own (and_then requests more bytes others to from last parts behind owes) =
+    PartsAreUnder Own parts
+    × ((number : ℕ) → from.number ≤ number → number < last.number → Own number)
+
+-- the same over logs, which are counted from 0
+abbrev pub LogsAreUnder : {role : Role} {workers : List Worker} {requests : List Request}
+    {owed : List ℕ} → (ℕ → ℕ → Type 0) → OwesInLogs role workers requests owed → Type 0
+LogsAreUnder Own no_log = ⊤
+LogsAreUnder Own (next_log worker workers requests more bytes others to parts owes) =
+    PartsAreUnder (Own 0) parts × LogsAreUnder (λ log. Own (suc log)) owes
 
 -- how often reads of the connection's stream have failed, and how often writes have
 abbrev pub FailedSoOften : Connection → ℕ → ℕ → Type 0
@@ -99,3 +115,25 @@ pub record WasAnswered (workers : List Worker) (connection : Connection) : Type 
       BeginsWith all requests
   pub owes : OwesInLogs connection.conn.role workers requests owed
   pub ending : EndsWithoutFault connection requests owed ⊎ IsCut connection owed
+
+-- The connection was answered so, by commands of these numbers of each log alone.
+pub record WasAnsweredUnder (Own : ℕ → ℕ → Type 0) (workers : List Worker)
+    (connection : Connection) : Type 0 where
+  pub answered : WasAnswered workers connection
+  pub under : LogsAreUnder Own answered.owes
+
+-- the worker of this log had announced no more than that many commands when it began to serve
+abbrev pub IsSince : List Worker → ℕ → ℕ → Type 0
+IsSince begun log number = (first : Worker) → slice_get begun log ≡ Some first →
+    length (announced_of first) ≤ number
+
+-- Connections that have ended, the latest first, were answered by workers that went from the first
+-- list to the second, one after another, and no two of them by one command: each number of each log
+-- has one owner, which is told by how many had ended before it, and each connection was answered by
+-- commands that it owns, and that were announced since the log's worker began.
+pub record WereAnsweredApart (begun served : List Worker) (ended : List Connection) : Type 0 where
+  pub owner : ℕ → ℕ → ℕ
+  pub answered : (later earlier : List Connection) (connection : Connection) →
+      ended ≡ later ++ connection ∷ earlier → WasAnsweredUnder
+      (λ log number. (owner log number ≡ length earlier) × IsSince begun log number)
+      served connection

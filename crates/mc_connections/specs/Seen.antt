@@ -3,7 +3,7 @@
 -- Connections are those of memcached's doc/protocol.txt, "Protocol"; that one worker serves several
 -- is this project's profile.
 use mathlib.Core.Logic.{inl, inr}
-use Rattle.std.specs.Prelude.{◌≡◌, ◌⊎◌, ℕ, ◌+◌, ◌≤◌, Bool, true, List, [], ◌∷◌, ◌++◌, length, Some, slice_get}
+use Rattle.std.specs.Prelude.{◌≡◌, ◌⊎◌, ℕ, zero, suc, ◌+◌, ◌≤◌, Bool, true, List, [], ◌∷◌, ◌++◌, length, Some, slice_get}
 use Rattle.lists.specs.Lists.{BeginsWith}
 use Rattle.mc_conn.specs.Cited.{ReadsAs}
 use Rattle.mc_conn.specs.Held.{lines_of}
@@ -14,7 +14,7 @@ use Rattle.mc_conn.specs.declared.conn.State.{State}
 use Rattle.mc_model.specs.declared.command.Command.{Command}
 use Rattle.mc_model.specs.declared.reply.Reply.{Reply}
 use Rattle.mc_model.specs.declared.request.Request.{Request}
-use Rattle.mc_connections.specs.Life.{IsBehind, IsCut, OwesInLogs, OwesInParts, came_of, sent_of}
+use Rattle.mc_connections.specs.Life.{IsBehind, IsCut, OwesInLogs, OwesInParts, and_then, came_of, next_log, no_log, none_yet, sent_of}
 use Rattle.mc_connections.specs.Serving.{IsServedLater, TakesOrStops, connection_at}
 use Rattle.mc_connections.specs.Working.{Standing}
 use Rattle.mc_connections.specs.declared.connection.Connection.{Connection}
@@ -73,6 +73,27 @@ abbrev pub history_place : {worker : Worker} {role : Role} {mark : Mark}
     {requests : List Request} {owed : List ℕ} {index : ℕ} →
     IsAnsweredAmong worker role mark requests owed index → ℕ
 history_place answer = answer.placed.place
+
+-- of the requests of these parts the one of an index was answered, as the command of this number
+abbrev pub IsAnsweredInParts : {worker : Worker} {role : Role} {requests : List Request}
+    {bytes : List ℕ} {to : Mark} → ℕ → ℕ → OwesInParts worker role requests bytes to → Type 0
+IsAnsweredInParts number index none_yet = ⊥
+IsAnsweredInParts {worker} {role} number index
+    (and_then requests more bytes others to from last parts behind owes) =
+    IsAnsweredInParts number index parts
+    ⊎ (at : ℕ) × (answer : IsAnsweredAmong worker role from more others at)
+    × (announced_number answer ≡ number) × (index ≡ length requests + at)
+
+-- the same over logs, of a number of this one of them, counted from 0
+abbrev pub IsAnsweredInLogs : {role : Role} {workers : List Worker} {requests : List Request}
+    {owed : List ℕ} → ℕ → ℕ → ℕ → OwesInLogs role workers requests owed → Type 0
+IsAnsweredInLogs log number index no_log = ⊥
+IsAnsweredInLogs zero number index
+    (next_log worker workers requests more bytes others to parts owes) =
+    IsAnsweredInParts number index parts
+IsAnsweredInLogs (suc log) number index
+    (next_log worker workers requests more bytes others to parts owes) =
+    (later : ℕ) × IsAnsweredInLogs log number later owes × (index ≡ length requests + later)
 
 -- Of requests that were taken over logs that followed one another, the one of this index was
 -- answered on the last log: after what the workers of the earlier logs owe for the first requests,
@@ -136,6 +157,17 @@ requests_taken (inr (fault, stops)) = stops.breaks.taken.requests
 abbrev pub owed_for_them : {before after : Scene} → TakesOrStops before after → List ℕ
 owed_for_them (inl takes) = takes.taken.owed
 owed_for_them (inr (fault, stops)) = stops.breaks.taken.owed
+
+-- A worker served a connection, whichever it was, and of the requests that it took there it
+-- answered the one of this index.
+pub record ServesAndAnswers (until : Bool) (before after : Worker) : Type 0 where
+  pub old : Connection
+  pub new : Connection
+  pub state : State
+  pub turns : IsServedLater until before after old new state
+  pub which : ℕ
+  pub answer : IsAnsweredAmong after old.conn.role (mark_of before)
+      (requests_taken turns.served.how) (owed_for_them turns.served.how) which
 
 -- A client of two connections of one worker, on one log. By the moment `saw` it was sent the reply
 -- to a request on the one, with all that is owed before it. What it then sends on the other is

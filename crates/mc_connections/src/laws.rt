@@ -13,14 +13,14 @@ ghost use Rattle.mc_conn.specs.declared.conn.Role.TheVariants.{Admin, Tenant};
 ghost use Rattle.mc_conn.specs.declared.conn.State.{State};
 ghost use Rattle.mc_conn.specs.declared.conn.State.TheVariants.{Busy, Full};
 ghost use Rattle.mc_counters.specs.Tallied.{CountedRequest};
-ghost use Rattle.mc_connections.specs.Asking.{HaveBeenAsked};
+ghost use Rattle.mc_connections.specs.Asking.{HaveBeenAsked, IsLogged};
 ghost use Rattle.mc_connections.specs.Counting.{HasPlace, held_as, is_of_tenant, with_held_as};
 ghost use Rattle.mc_connections.specs.Holding.{WorkerPlaces};
 ghost use Rattle.mc_connections.specs.InQueue.{WaitsOn};
 ghost use Rattle.mc_connections.specs.InTurn.{HaveServedInTurn, InTurn};
-ghost use Rattle.mc_connections.specs.Life.{OwesInLogs, OwesInParts, WasAnswered, came_of, sent_of};
+ghost use Rattle.mc_connections.specs.Life.{OwesInLogs, OwesInParts, WasAnswered, WereAnsweredApart, came_of, sent_of};
 ghost use Rattle.mc_connections.specs.Round.{HaveCome, IsOfConnection, MakesRound, Queued, ServesNext, TellsEnd};
-ghost use Rattle.mc_connections.specs.Seen.{AreAnsweredFrom, IsAnsweredAmong, IsThere, SeesThenAsks, SplitsAtLast, WasSent, announced_number, history_place};
+ghost use Rattle.mc_connections.specs.Seen.{AreAnsweredFrom, IsAnsweredAmong, IsAnsweredInLogs, IsThere, SeesThenAsks, ServesAndAnswers, SplitsAtLast, WasSent, announced_number, history_place};
 ghost use Rattle.mc_connections.specs.Serving.{HasComeTo, IsServedLater, answered_between, moved_between, scene_of, tenant_of};
 ghost use Rattle.mc_connections.specs.Sharing.{OnlyTheTurnGoesOn, OthersTakeOneTurnEach, OthersTakeOneTurnPerConnection, RoundsAreServes};
 ghost use Rattle.mc_connections.specs.Tallying.{tally_place};
@@ -41,7 +41,7 @@ ghost use Rattle.mc_model.specs.declared.request.Request.{Request};
 ghost use Rattle.mio.specs.Event.{event_token};
 ghost use Rattle.mio.specs.declared.event.event.Event.{Event};
 ghost use Rattle.uc_worker.specs.Going.{CatchesUp, Continues};
-ghost use Rattle.uc_worker.specs.Worker.{IsFull, tenants_of};
+ghost use Rattle.uc_worker.specs.Worker.{IsFull, announced_of, tenants_of};
 ghost use Rattle.uc_worker.specs.declared.worker.Worker.{Worker};
 
 /// Over one log, a connection is owed exactly what the log's worker owes it in parts.
@@ -136,8 +136,8 @@ pub fn what_a_serve_costs()
         moved_between old new ≡ length came + length went }
 {}
 
-/// Each time that a connection is served at most 128 of its requests get a reply, and at most 32,768
-/// bytes come, whatever its client sends: so the requests cost 131,072 at most, and what came
+/// Each time that a connection is served at most 128 of its requests get a reply, and at most
+/// 32,768 bytes come, whatever its client sends: so the requests cost 131,072 at most, and what came
 /// 32,768.
 pub fn what_a_serve_takes()
     ensures requests { (until : Bool) (before after : Worker) (old new : Connection)
@@ -267,6 +267,50 @@ pub fn connections_are_answered_over_logs()
     mc_conn::laws::parts_add_up();
 }
 
+/// Connections that have ended at an event loop were answered so, and no two of them by one
+/// command, however many logs its workers have served, one after another.
+pub fn connections_are_answered_apart()
+    ensures { (who : InTurn) (connections : Connections) → HaveServedInTurn who connections →
+        WereAnsweredApart who.begun who.served connections.ended.connections }
+{
+    mc_conn::laws::parts_add_up();
+}
+
+/// Each request that is to be logged, of those that a connection's workers owe for, was answered by
+/// a command, unless its log is full. That is the one that it logs, its worker has announced it, and
+/// it answers no other request: neither of this connection nor of another that has ended.
+pub fn a_command_answers_one_request()
+    ensures each { (role : Role) (workers : List Worker) (requests : List Request)
+        (owed : List ℕ) (owes : OwesInLogs role workers requests owed) (index : ℕ)
+        (request : Request) → slice_get requests index ≡ Some request →
+        is_logged (demand_of role request) ≡ true → (log : ℕ) × (worker : Worker)
+        × (slice_get workers log ≡ Some worker)
+        × (((number : ℕ) × IsAnsweredInLogs log number index owes) ⊎ IsFull worker) }
+    ensures logged { (role : Role) (workers : List Worker) (requests : List Request)
+        (owed : List ℕ) (owes : OwesInLogs role workers requests owed)
+        (log number index : ℕ) (worker : Worker) → IsAnsweredInLogs log number index owes →
+        slice_get workers log ≡ Some worker → (request : Request)
+        × (slice_get requests index ≡ Some request) × IsLogged worker role request number }
+    ensures owner { (begun served : List Worker) (ended : List Connection)
+        (apart : WereAnsweredApart begun served ended) (later earlier : List Connection)
+        (connection : Connection) (is : ended ≡ later ++ connection ∷ earlier)
+        (log number index : ℕ) → IsAnsweredInLogs log number index
+        (apart.answered later earlier connection is).answered.owes →
+        apart.owner log number ≡ length earlier }
+    // Where a log was served in two parts, which count as two logs here, it answers in one of them:
+    // it was announced since the worker began there.
+    ensures since { (begun served : List Worker) (ended : List Connection)
+        (apart : WereAnsweredApart begun served ended) (later earlier : List Connection)
+        (connection : Connection) (is : ended ≡ later ++ connection ∷ earlier)
+        (log number index : ℕ) (first : Worker) → IsAnsweredInLogs log number index
+        (apart.answered later earlier connection is).answered.owes →
+        slice_get begun log ≡ Some first → length (announced_of first) ≤ number }
+    ensures request { (role : Role) (workers : List Worker) (requests : List Request)
+        (owed : List ℕ) (owes : OwesInLogs role workers requests owed)
+        (log number one other : ℕ) → IsAnsweredInLogs log number one owes →
+        IsAnsweredInLogs log number other owes → one ≡ other }
+{}
+
 /// What a connection was sent by any moment between two serves, whether it is there still or has
 /// ended, is a prefix of what it is owed by the workers that have served it, as they are then; where
 /// a fault has closed it, of that and the words that report the fault.
@@ -310,6 +354,31 @@ pub fn what_a_client_has_seen_comes_first()
     // It is the same worker, later on.
     ensures onward { (until : Bool) (past : List Worker) (saw asked answered : Standing) →
         SeesThenAsks until past saw asked answered → Continues saw.worker answered.worker }
+{}
+
+/// Two answers have two announcements, so that no command is answered by another's, also where both
+/// are equal. Of two requests that a worker answers as it serves a connection, the earlier one's
+/// command was announced under the lower number, and they stand at two places of the log. What it
+/// answers in one serve was announced under lower numbers than what it answers in a later one, and
+/// stands at earlier places, whichever connections these are of, and also where the log is served
+/// in two parts.
+pub fn two_answers_have_two_announcements()
+    ensures serve { (worker : Worker) (role : Role) (mark : Mark) (requests : List Request)
+        (owed : List ℕ) (first second : ℕ)
+        (one : IsAnsweredAmong worker role mark requests owed first)
+        (two : IsAnsweredAmong worker role mark requests owed second) → first < second →
+        (announced_number one < announced_number two)
+        × (history_place one ≢ history_place two) }
+    // Each is one of the numbers of what the worker owes there, from mark to mark.
+    ensures within { (worker : Worker) (role : Role) (from to : Mark) (requests : List Request)
+        (owed : List ℕ) → Owes worker role from requests owed to → (index : ℕ)
+        (one : IsAnsweredAmong worker role from requests owed index) →
+        (from.number ≤ announced_number one) × (announced_number one < to.number) }
+    ensures serves { (until then_until : Bool) (begun served later last : Worker)
+        (one : ServesAndAnswers until begun served)
+        (two : ServesAndAnswers then_until later last) → Continues served later →
+        (announced_number one.answer < announced_number two.answer)
+        × (history_place one.answer < history_place two.answer) }
 {}
 
 /// Once no connection is left, each command that a worker has announced since it began to serve is

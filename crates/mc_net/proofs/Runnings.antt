@@ -5,7 +5,7 @@ use Rattle.std.proofs.Math.Seq.{take-append_seam}
 use Rattle.std.proofs.lemmas.List.Elements.{AllZip-get_or, All-cons, All-head, All-nil, All-tail, length_all_zip}
 use Rattle.mc_connections.specs.Asking.{HaveBeenAsked}
 use Rattle.mc_connections.specs.InTurn.{HaveServedInTurn, InTurn, nobody, no_worker, one_on_next_log}
-use Rattle.mc_connections.specs.Life.{WasAnswered}
+use Rattle.mc_connections.specs.Life.{WereAnsweredApart}
 use Rattle.mc_connections.specs.Working.{IsEmpty, Standing, Works, standing}
 use Rattle.mc_connections.specs.declared.connections.Connections.{Connections}
 use Rattle.mc_net.specs.Returning.{HasAnswered, HasBeenAsked, HasServed, returned_of, returned_worker}
@@ -194,19 +194,20 @@ one_log worker back served =
 
 -- the laws of what was answered and asked
 abbrev pub AreAnswered : Type 0
-AreAnswered = (who : InTurn) (connections : Connections) → HaveServedInTurn who connections → All (WasAnswered who.served) connections.ended.connections
+AreAnswered = (who : InTurn) (connections : Connections) → HaveServedInTurn who connections → WereAnsweredApart who.begun who.served connections.ended.connections
 
 abbrev pub AreAsked : Type 0
 AreAsked = (who : InTurn) (connections : Connections) → HaveServedInTurn who connections → IsEmpty connections → HaveBeenAsked who.begun who.served connections.ended.connections
 
-pub all_have_answered : AreAnswered → (workers : List Worker) (back : List Returned) → AllZip HasServed workers back → All HasAnswered back
-all_have_answered law [] [] served = All-nil HasAnswered
+pub all_have_answered : AreAnswered → (workers : List Worker) (back : List Returned) → AllZip HasServed workers back → AllZip HasAnswered workers back
+all_have_answered law [] [] served = tt
 all_have_answered law [] (z ∷ zs) served = absurd served
 all_have_answered law (x ∷ xs) [] served = absurd served
-all_have_answered law (x ∷ xs) (z ∷ zs) served =
-    All-cons HasAnswered z zs
-    (subst (λ past. All (WasAnswered (z.worker ∷ [])) past.connections) served.0.ended (law (record { begun = x ∷ []; served = z.worker ∷ [] }) served.0.last (one_log x z served.0)))
-    (all_have_answered law xs zs served.1)
+all_have_answered law (x ∷ xs) (z ∷ zs) served = (
+  subst (λ past. WereAnsweredApart (x ∷ []) (z.worker ∷ []) past.connections) served.0.ended
+      (law (record { begun = x ∷ []; served = z.worker ∷ [] }) served.0.last (one_log x z served.0)),
+  all_have_answered law xs zs served.1,
+)
 
 pub all_have_been_asked : AreAsked → (workers : List Worker) (back : List Returned) → AllZip HasServed workers back → AllZip HasBeenAsked workers back
 all_have_been_asked law [] [] served = tt

@@ -9,7 +9,7 @@ use Rattle.std.proofs.lemmas.Slice.Zip.{AllZip-long}
 use Rattle.std.specs.List.{AllZip}
 use Rattle.mc_connections.specs.Asking.{HaveBeenAsked}
 use Rattle.mc_connections.specs.InTurn.{HaveServedInTurn, InTurn, no_worker, nobody}
-use Rattle.mc_connections.specs.Life.{WasAnswered}
+use Rattle.mc_connections.specs.Life.{WereAnsweredApart}
 use Rattle.mc_connections.specs.Working.{IsEmpty}
 use Rattle.mc_connections.specs.declared.connections.Connections.{Connections}
 use Rattle.mc_model.specs.declared.shown.LogSize.{LogSize}
@@ -139,7 +139,7 @@ one_more_few logs number most next more is fits then =
 
 -- the laws of what was answered and asked
 abbrev pub AreAnswered : Type 0
-AreAnswered = (who : InTurn) (connections : Connections) → HaveServedInTurn who connections → All (WasAnswered who.served) connections.ended.connections
+AreAnswered = (who : InTurn) (connections : Connections) → HaveServedInTurn who connections → WereAnsweredApart who.begun who.served connections.ended.connections
 
 abbrev pub AreAsked : Type 0
 AreAsked = (who : InTurn) (connections : Connections) → HaveServedInTurn who connections → IsEmpty connections → HaveBeenAsked who.begun who.served connections.ended.connections

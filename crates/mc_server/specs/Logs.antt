@@ -6,7 +6,7 @@ use Rattle.std.specs.List.{AllZip}
 use Rattle.std.specs.Prelude.{◌≡◌, ◌⊎◌, ◌<◌, ◌≤◌, ⊤, ℕ, ◌+◌, Bool, false, List, [], All, MatchResult, Option, None, Result, Some, length, slice_get, vec_len}
 use Rattle.mc_connections.specs.Asking.{HaveBeenAsked}
 use Rattle.mc_connections.specs.InTurn.{HaveServedInTurn, InTurn, nobody}
-use Rattle.mc_connections.specs.Life.{WasAnswered}
+use Rattle.mc_connections.specs.Life.{WereAnsweredApart}
 use Rattle.mc_connections.specs.Working.{IsEmpty}
 use Rattle.mc_connections.specs.declared.connection.Connection.{Connection}
 use Rattle.mc_connections.specs.declared.connections.Connections.{Connections}
@@ -108,12 +108,11 @@ pub record ServesLast (settings : Configuration) (logs places : ℕ) (all : List
   pub parts : AllZip Continues begun served × (all ≡ each_followed_by who begun served)
       ⊎ ServesInTwo who begun served all
 
--- Each connection that has ended was answered over all logs, and all that these workers have
--- announced was asked for by one of them. All these were served one after another, from when there
--- was no connection until none was left. (From that order it follows that no two answers have one
--- announcement; no law says so.)
+-- Each connection that has ended was answered over all logs, no two of them by one command, and all
+-- that these workers have announced was asked for by one of them. All these were served one after
+-- another, from when there was no connection until none was left.
 pub record IsAnsweredBy (who : InTurn) (ended : List Connection) : Type 0 where
-  pub answered : All (WasAnswered who.served) ended
+  pub answered : WereAnsweredApart who.begun who.served ended
   pub asked : HaveBeenAsked who.begun who.served ended
   pub last : Connections
   pub in_turn : HaveServedInTurn who last

@@ -323,7 +323,7 @@ pub(crate) fn serve_logs<R: Threads + Wait + Clock + Sync, B: Begin<S>, S>(
         (HaltsServing (B.done begin.now) (B.stopped begin.now) state.old state.new) }
 {
     // The laws from which it follows that all were answered and asked for.
-    mc_connections::laws::connections_are_answered_over_logs();
+    mc_connections::laws::connections_are_answered_apart();
     mc_connections::laws::commands_are_asked_for_over_logs();
     let mut number = 1;
     let mut total = 0;

@@ -40,11 +40,11 @@ pub fn each_tenant_has_what_its_word_says()
         workers_for given ≡ given.workers }
 {}
 
-/// What the workers of a log have done, of all logs of a run of `wfmc` that ends, is one run of the
-/// core, the machine of the headline, over the tables that the log was opened over: each log that
-/// another has followed, and the last one. The core's log is the history that its workers have, and
-/// each reply that a connection is owed for a command that has a place there is one of its replies.
-/// It also answers a command whose worker ran out of memory, for which no connection is owed one.
+/// What the workers of a log have done, of each log that is closed and of the last one of which
+/// `WereServed` speaks, is one run of the core, the machine of the headline, over the tables that
+/// the log was opened over. The core's log is the history that its workers have, and each reply
+/// that a connection is owed for a command that has a place there is one of its replies. It also
+/// answers a command whose worker ran out of memory, for which no connection is owed one.
 pub fn each_log_is_one_run_of_the_core()
     ensures closed { ClosedLogsAreCoreRuns }
     ensures last { LastLogsAreCoreRuns }
