@@ -15,16 +15,16 @@ use Rattle.mc_conn.specs.declared.conn.State.TheVariants.{Closed}
 use Rattle.mc_model.specs.declared.fault.Fault.{Fault}
 use Rattle.mc_model.specs.declared.request.Request.{Request}
 use Rattle.mc_model.specs.Legal.{ticket_of}
-use Rattle.mc_connections.specs.Asking.{Announcement, HaveBeenAsked, IsAnnounced, IsEarlier, IsLogged, WasAsked}
-use Rattle.mc_connections.specs.Life.{came_of}
+use Rattle.mc_connections.specs.Asking.{Announcement, IsAnnounced, IsEarlier, IsLogged, WasAsked, WereAnsweredAsAsked}
+use Rattle.mc_connections.specs.Life.{IsSince, WasAnsweredUnder, came_of}
 use Rattle.mc_connections.specs.Serving.{Becomes, IsNewConnection, IsServedLater, connection_at, scene_of}
-use Rattle.mc_connections.specs.InTurn.{HaveServedInTurn, InTurn, followed_by, nobody, no_worker, one_on_next_log}
-use Rattle.mc_connections.specs.Working.{IsEmpty, IsUnused, KeepsUp, ServesOne, Standing, TakesIn, Works, begins, goes_on, standing}
+use Rattle.mc_connections.specs.InTurn.{InTurn, followed_by, nobody}
+use Rattle.mc_connections.specs.Working.{IsUnused, KeepsUp, ServesOne, Standing, TakesIn, standing}
 use Rattle.mc_connections.specs.declared.arrival.Arrival.{Arrival}
 use Rattle.mc_connections.specs.declared.past_connections.PastConnections.{PastConnections}
 use Rattle.mc_connections.specs.declared.connection.Connection.{Connection}
 use Rattle.mc_connections.specs.declared.connections.Connections.{Connections}
-use Rattle.mc_connections.proofs.Lives.{IsSound, OfAny, PartsAddUp, at_key, at_others, continues_self, ends_anywhere, nothing_at, pick, reads_from_earlier, same_key, sound_in_turn, sound_working, with_at}
+use Rattle.mc_connections.proofs.Lives.{IsSound, OfAny, at_key, at_others, continues_self, ends_anywhere, final_before, final_then, nothing_at, pick, reads_from_earlier, same_key, with_at}
 use Rattle.mc_connections.proofs.Numbers.{IsAt, Numbers, met_numbers, owed_numbers, taken_numbers}
 use Rattle.mc_conn.specs.Cited.{ReadsAs}
 use Rattle.mc_stream.specs.Event.{moved}
@@ -40,15 +40,15 @@ module _ {X : Type 0} where
   at_behind (y ∷ front) list place (suc there) x is at = at_behind front list place there x (omega (arith, is)) at
 
 -- a worker, the connection under each key, and what has ended
-record View : Type 0 where
-  worker : Worker
-  live : ℕ → Option Connection
-  ended : List Connection
+pub record View : Type 0 where
+  pub worker : Worker
+  pub live : ℕ → Option Connection
+  pub ended : List Connection
 
-abbrev view : Worker → (ℕ → Option Connection) → List Connection → View
+abbrev pub view : Worker → (ℕ → Option Connection) → List Connection → View
 view worker live ended = record { worker = worker; live = live; ended = ended }
 
-abbrev view_of : Standing → View
+abbrev pub view_of : Standing → View
 view_of standing = view standing.worker (connection_at standing.connections) standing.connections.ended.connections
 
 -- all that came of a connection reads as these requests at first, and then, if no fault has closed
@@ -59,7 +59,7 @@ HasTaken connection requests =
     (others : List Request) × (all ≡ requests ++ others) × (connection.conn.is_closed ≡ false → HoldsOn (holding_of connection.conn) more others)
 
 -- who asked: the connection under a key, or the one before which this many had ended
-data Who : Type 0 where
+pub data Who : Type 0 where
   stands_under : ℕ → Who
   ended_after : ℕ → Who
 
@@ -77,13 +77,19 @@ abbrev Found : Worker → View → (ℕ → List Request) → ℕ → Who → �
 Found worker v taken number (stands_under key) request = StandsAndAsked worker v taken number key request
 Found worker v taken number (ended_after asker) request = WasAsked worker v.ended number asker request
 
+-- at which place who asked ends: of a connection that is there still, the one that `final` says of its
+-- key
+abbrev pub place_of : (ℕ → ℕ) → Who → ℕ
+place_of final (stands_under key) = final key
+place_of final (ended_after asker) = asker
+
 -- the worker announced the command on an earlier log
 abbrev WasAnnounced : InTurn → Announcement → Worker → Type 0
 WasAnnounced past which worker = IsAnnounced past.begun past.served which worker
 
 -- each command of earlier logs, and of this one from a number on, was asked for, and those of one
 -- connection in order
-record Asking (past : InTurn) (from : ℕ) (v : View) : Type 0 where
+pub record Asking (owner : ℕ → ℕ → ℕ) (final : ℕ → ℕ) (past : InTurn) (from : ℕ) (v : View) : Type 0 where
   taken : ℕ → List Request
   has_taken : (key : ℕ) (connection : Connection) → v.live key ≡ Some connection → HasTaken connection (taken key)
   asker : ℕ → Who
@@ -98,6 +104,8 @@ record Asking (past : InTurn) (from : ℕ) (v : View) : Type 0 where
       past_request one < past_request two
   across : (which : Announcement) (worker : Worker) → WasAnnounced past which worker → (number : ℕ) → from ≤ number → number < length (announced_of v.worker) → past_asker which ≡ asker number →
       past_request which < request number
+  owned : (number : ℕ) → from ≤ number → number < length (announced_of v.worker) → place_of final (asker number) ≡ owner (length past.served) number
+  past_owned : (which : Announcement) (worker : Worker) → WasAnnounced past which worker → place_of final (past_asker which) ≡ owner which.log which.number
 
 -- what a connection's turns have taken and announced
 record Step (before after : Worker) (old new : Connection) (taken : List Request) : Type 0 where
@@ -207,8 +215,9 @@ below_or_above (suc number) (suc high) =
     ⊎_elim (λ below. inl (omega (arith, below))) (λ above. inr (above.0, omega (arith, above.1))) (below_or_above number high)
 
 -- The connection under a key had its turns.
-module _ (past : InTurn) (from : ℕ) (v : View) (asking : Asking past from v) (key : ℕ) (old new : Connection) (there : v.live key ≡ Some old) (after : Worker)
-    (step : Step v.worker after old new (asking.taken key)) where
+module _ (owner : ℕ → ℕ → ℕ) (final : ℕ → ℕ) (past : InTurn) (from : ℕ) (v : View) (asking : Asking owner final past from v) (key : ℕ) (old new : Connection) (there : v.live key ≡ Some old)
+    (after : Worker) (step : Step v.worker after old new (asking.taken key))
+    (own : (number : ℕ) → length (announced_of v.worker) ≤ number → number < length (announced_of after) → owner (length past.served) number ≡ final key) where
   abbrev served : View
   served = view after (with_at v.live key (Some new)) v.ended
 
@@ -289,7 +298,12 @@ module _ (past : InTurn) (from : ℕ) (v : View) (asking : Asking past from v) (
   across_then which worker is number (inr above) low same =
       omega (arith, is_taken worker which.number (asking.past_asker which) (asking.past_request which) same (asking.past_found which worker is))
 
-  asking_served : Asking past from served
+  owned_then : (number : ℕ) (either : (number < length (announced_of v.worker)) ⊎ ((i : ℕ) × (number ≡ length (announced_of v.worker) + i))) → from ≤ number →
+      number < length (announced_of after) → place_of final (asker_of number either) ≡ owner (length past.served) number
+  owned_then number (inl before) low high = asking.owned number low before
+  owned_then number (inr above) low high = sym (own number (omega (arith, above.1)) high)
+
+  asking_served : Asking owner final past from served
   asking_served = record {
     taken = taken_then;
     has_taken = λ other connection at.
@@ -312,10 +326,13 @@ module _ (past : InTurn) (from : ℕ) (v : View) (asking : Asking past from v) (
     past_found = λ which worker is. found_still worker worker (continues_self worker) which.number (asking.past_asker which) (asking.past_request which) (asking.past_found which worker is);
     past_in_order = asking.past_in_order;
     across = λ which worker is number low high same. across_then which worker is number (below_or_above number _) low same;
+    owned = λ number low high. owned_then number (below_or_above number _) low high;
+    past_owned = asking.past_owned;
   }
 
 -- The connection under a key goes.
-module _ (past : InTurn) (from : ℕ) (v : View) (asking : Asking past from v) (key : ℕ) (last : Connection) (there : v.live key ≡ Some last) where
+module _ (owner : ℕ → ℕ → ℕ) (final : ℕ → ℕ) (past : InTurn) (from : ℕ) (v : View) (key : ℕ) (asking : Asking owner (with_at final key (length v.ended)) past from v) (last : Connection)
+    (there : v.live key ≡ Some last) where
   abbrev gone : View
   gone = view v.worker (with_at v.live key None) (last ∷ v.ended)
 
@@ -385,7 +402,17 @@ module _ (past : InTurn) (from : ℕ) (v : View) (asking : Asking past from v) (
   renamed_alike worker other one two first second (ended_after i) (stands_under j) a b same = absurd (picked_ended j i (same_key j key) (is_earlier worker one i first a) (sym same))
   renamed_alike worker other one two first second (ended_after i) (ended_after j) a b same = same
 
-  asking_gone : Asking past from gone
+  renamed_picked : (other : ℕ) (either : (other ≡ key) ⊎ (other ≢ key)) →
+      place_of final (pick (ended_after (length v.ended)) (stands_under other) either) ≡ pick (length v.ended) (final other) either
+  renamed_picked other (inl is) = refl
+  renamed_picked other (inr not) = refl
+
+  -- the place at which it ends is the one that was foreseen
+  renamed_place : (who : Who) → place_of final (renamed who) ≡ place_of (with_at final key (length v.ended)) who
+  renamed_place (stands_under other) = renamed_picked other (same_key other key)
+  renamed_place (ended_after asker) = refl
+
+  asking_gone : Asking owner final past from gone
   asking_gone = record {
     taken = asking.taken;
     has_taken = λ other connection at.
@@ -409,10 +436,12 @@ module _ (past : InTurn) (from : ℕ) (v : View) (asking : Asking past from v) (
     across = λ which worker is number low high same.
         asking.across which worker is number low high
         (renamed_alike worker v.worker which.number number _ _ (asking.past_asker which) (asking.asker number) (asking.past_found which worker is) (asking.found number low high) same);
+    owned = λ number low high. renamed_place (asking.asker number) ∙ asking.owned number low high;
+    past_owned = λ which worker is. renamed_place (asking.past_asker which) ∙ asking.past_owned which worker is;
   }
 
 -- A connection comes in.
-module _ (past : InTurn) (from : ℕ) (v : View) (asking : Asking past from v) (key : ℕ) (fresh : Connection) (vacant : v.live key ≡ None) (has_taken : HasTaken fresh []) where
+module _ (owner : ℕ → ℕ → ℕ) (final : ℕ → ℕ) (past : InTurn) (from : ℕ) (v : View) (asking : Asking owner final past from v) (key : ℕ) (fresh : Connection) (vacant : v.live key ≡ None) (has_taken : HasTaken fresh []) where
   abbrev joined : View
   joined = view v.worker (with_at v.live key (Some fresh)) v.ended
 
@@ -429,7 +458,7 @@ module _ (past : InTurn) (from : ℕ) (v : View) (asking : Asking past from v) (
         asked = subst (λ (requests : List Request). IsAt worker found.connection.conn.role number requests request) (sym (at_others asking.taken key [] other not)) found.asked;
       }
 
-  asking_joined : Asking past from joined
+  asking_joined : Asking owner final past from joined
   asking_joined = record {
     taken = taken_anew;
     has_taken = λ other connection at.
@@ -452,6 +481,8 @@ module _ (past : InTurn) (from : ℕ) (v : View) (asking : Asking past from v) (
     past_found = λ which worker is. found_joined worker which.number (asking.past_asker which) (asking.past_request which) (asking.past_found which worker is);
     past_in_order = asking.past_in_order;
     across = asking.across;
+    owned = asking.owned;
+    past_owned = asking.past_owned;
   }
 
 -- whoever the worker is, what was found is found still
@@ -469,11 +500,11 @@ found_kept first then other on v taken number (stands_under key) request found =
 }
 
 -- The worker catches up, and announces nothing.
-module _ (past : InTurn) (from : ℕ) (v : View) (asking : Asking past from v) (after : Worker) (caught : CatchesUp v.worker after) where
+module _ (owner : ℕ → ℕ → ℕ) (final : ℕ → ℕ) (past : InTurn) (from : ℕ) (v : View) (asking : Asking owner final past from v) (after : Worker) (caught : CatchesUp v.worker after) where
   announced_then : (number : ℕ) → number < length (announced_of after) → number < length (announced_of v.worker)
   announced_then number high = subst (λ list. number < length list) caught.announced high
 
-  asking_caught : Asking past from (view after v.live v.ended)
+  asking_caught : Asking owner final past from (view after v.live v.ended)
   asking_caught = record {
     taken = asking.taken;
     has_taken = asking.has_taken;
@@ -489,6 +520,8 @@ module _ (past : InTurn) (from : ℕ) (v : View) (asking : Asking past from v) (
         found_kept worker worker after (continues_self worker) v asking.taken which.number (asking.past_asker which) (asking.past_request which) (asking.past_found which worker is);
     past_in_order = asking.past_in_order;
     across = λ which worker is number low high same. asking.across which worker is number low (announced_then number high) same;
+    owned = λ number low high. asking.owned number low (announced_then number high);
+    past_owned = asking.past_owned;
   }
 
 fresh_taken : (connection : Connection) (arrival : Arrival _) → IsNewConnection connection arrival → HasTaken connection []
@@ -513,23 +546,28 @@ changed_live live now key slot changed others other =
     (λ (not : other ≢ key). others other not ∙ sym (at_others live key slot other not))
     (same_key other key)
 
-asking_taking : (past : InTurn) (from : ℕ) (before after : Standing) → Asking past from (view_of before) → TakesIn before after → Asking past from (view_of after)
-asking_taking past from before after asking taken =
+pub asking_taking : (owner : ℕ → ℕ → ℕ) (final : ℕ → ℕ) (past : InTurn) (from : ℕ) (before after : Standing) → Asking owner final past from (view_of before) → TakesIn before after →
+    Asking owner final past from (view_of after)
+asking_taking owner final past from before after asking taken =
     let fresh = taken.admits.connection in
     let now = connection_at after.connections in
-    subst (Asking past from)
+    subst (Asking owner final past from)
     (same_view before.worker after.worker (with_at (connection_at before.connections) taken.key (Some fresh)) now before.connections.ended.connections after.connections.ended.connections taken.worker
     (changed_live (connection_at before.connections) now taken.key (Some fresh) taken.admits.updates.changed taken.admits.updates.others)
     (ap (λ (closed : PastConnections). closed.connections) taken.admits.ended))
-    (asking_joined past from (view_of before) asking taken.key fresh taken.admits.vacant (fresh_taken fresh taken.arrival taken.admits.fresh))
+    (asking_joined owner final past from (view_of before) asking taken.key fresh taken.admits.vacant (fresh_taken fresh taken.arrival taken.admits.fresh))
 
 -- what becomes of the slot under the key
-asking_at : (until : Bool) (past : InTurn) (from : ℕ) (before after : Standing) (state : State) (key : ℕ) (old new : Option Connection) → Asking past from (view_of before) →
+asking_at : (owner : ℕ → ℕ → ℕ) (final : ℕ → ℕ) (until : Bool) (past : InTurn) (from : ℕ) (before after : Standing) (state : State) (key : ℕ) (old new : Option Connection) →
+    Asking owner (final_before old new final key (length before.connections.ended.connections)) past from (view_of before) →
+    ((number : ℕ) → length (announced_of before.worker) ≤ number → number < length (announced_of after.worker) →
+    owner (length past.served) number ≡ final_before old new final key (length before.connections.ended.connections) key) →
     ((connection : Connection) → old ≡ Some connection → connection.conn.is_closed ≡ false) → connection_at before.connections key ≡ old → connection_at after.connections key ≡ new →
     ((other : ℕ) → other ≢ key → connection_at after.connections other ≡ connection_at before.connections other) →
-    Becomes (IsServedLater until before.worker after.worker) (after.worker ≡ before.worker) state before.connections.ended.connections after.connections.ended.connections old new → Asking past from (view_of after)
-asking_at until past from before after state key None new asking opened was is others (gone, still, idle, same_past) =
-    subst (Asking past from)
+    Becomes (IsServedLater until before.worker after.worker) (after.worker ≡ before.worker) state before.connections.ended.connections after.connections.ended.connections old new →
+    Asking owner final past from (view_of after)
+asking_at owner final until past from before after state key None new asking own opened was is others (gone, still, idle, same_past) =
+    subst (Asking owner final past from)
     (same_view before.worker after.worker (connection_at before.connections) (connection_at after.connections) before.connections.ended.connections after.connections.ended.connections still
     (λ other.
     ⊎_elim
@@ -538,47 +576,43 @@ asking_at until past from before after state key None new asking opened was is o
     (same_key other key))
     same_past)
     asking
-asking_at until past from before after state key (Some old) (Some new) asking opened was is others (later, isnt, same_past) =
+asking_at owner final until past from before after state key (Some old) (Some new) asking own opened was is others (later, isnt, same_past) =
     let step = step_later until before.worker after.worker old new state (asking.taken key) later (opened old refl) (asking.has_taken key old was) in
-    subst (Asking past from)
+    subst (Asking owner final past from)
     (same_view after.worker after.worker (with_at (connection_at before.connections) key (Some new)) (connection_at after.connections) before.connections.ended.connections after.connections.ended.connections refl
     (changed_live (connection_at before.connections) (connection_at after.connections) key (Some new) is others) same_past)
-    (asking_served past from (view_of before) asking key old new was after.worker step)
-asking_at until past from before after state key (Some old) None asking opened was is others (last, same_past, later, closed) =
+    (asking_served owner final past from (view_of before) asking key old new was after.worker step own)
+asking_at owner final until past from before after state key (Some old) None asking own opened was is others (last, same_past, later, closed) =
     let live = connection_at before.connections in
     let step = step_later until before.worker after.worker old last Closed (asking.taken key) later (opened old refl) (asking.has_taken key old was) in
-    let then = asking_served past from (view_of before) asking key old last was after.worker step in
-    subst (Asking past from)
+    let many = length before.connections.ended.connections in
+    let then = asking_served owner (with_at final key many) past from (view_of before) asking key old last was after.worker step own in
+    subst (Asking owner final past from)
     (same_view after.worker after.worker (with_at (with_at live key (Some last)) key None) (connection_at after.connections) (last ∷ before.connections.ended.connections) after.connections.ended.connections refl
     (changed_live (with_at live key (Some last)) (connection_at after.connections) key None is (λ other not. others other not ∙ sym (at_others live key (Some last) other not)))
     same_past)
-    (asking_gone past from (view after.worker (with_at live key (Some last)) before.connections.ended.connections) then key last (at_key live key (Some last) key refl))
+    (asking_gone owner final past from (view after.worker (with_at live key (Some last)) before.connections.ended.connections) key then last (at_key live key (Some last) key refl))
 
-asking_serving : (until : Bool) (past : InTurn) (from : ℕ) (before after : Standing) → IsSound OfAny ends_anywhere past.served before → Asking past from (view_of before) → ServesOne until before after → Asking past from (view_of after)
-asking_serving until past from before after sound asking one =
-    asking_at until past from before after one.state one.key (connection_at before.connections one.key) (connection_at after.connections one.key) asking
+pub asking_serving : (owner : ℕ → ℕ → ℕ) (final : ℕ → ℕ) (until : Bool) (past : InTurn) (from : ℕ) (before after : Standing) → IsSound OfAny ends_anywhere past.served before →
+    (one : ServesOne until before after) → Asking owner (final_then until before after one final) past from (view_of before) →
+    ((number : ℕ) → length (announced_of before.worker) ≤ number → number < length (announced_of after.worker) →
+    owner (length past.served) number ≡ final_then until before after one final one.key) → Asking owner final past from (view_of after)
+asking_serving owner final until past from before after sound one asking own =
+    asking_at owner final until past from before after one.state one.key (connection_at before.connections one.key) (connection_at after.connections one.key) asking own
     (λ connection at. (sound.lives one.key connection at).going) refl refl one.serves.others one.serves.becomes
 
-asking_catching : (past : InTurn) (from : ℕ) (before after : Standing) → Asking past from (view_of before) → KeepsUp before after → Asking past from (view_of after)
-asking_catching past from before after asking caught =
-    subst (Asking past from)
+pub asking_catching : (owner : ℕ → ℕ → ℕ) (final : ℕ → ℕ) (past : InTurn) (from : ℕ) (before after : Standing) → Asking owner final past from (view_of before) → KeepsUp before after →
+    Asking owner final past from (view_of after)
+asking_catching owner final past from before after asking caught =
+    subst (Asking owner final past from)
     (same_view after.worker after.worker (connection_at before.connections) (connection_at after.connections) before.connections.ended.connections after.connections.ended.connections refl
     (λ key. ap (λ (connections : Connections). connection_at connections key) caught.connections)
     (ap (λ (connections : Connections). connections.ended.connections) caught.connections))
-    (asking_caught past from (view_of before) asking after.worker caught.worker)
-
-asking_working : (until : Bool) (past : InTurn) (from : ℕ) (first last : Standing) → IsSound OfAny ends_anywhere past.served first → Asking past from (view_of first) → Works until first last → Asking past from (view_of last)
-asking_working until past from first _ sound asking begins = asking
-asking_working until past from first _ sound asking (goes_on between last works step) =
-    let so_far = asking_working until past from first between sound asking works in
-    ⊎_elim
-    (asking_taking past from between last so_far)
-    (⊎_elim (asking_serving until past from between last (sound_working until past.served first between sound works) so_far) (asking_catching past from between last so_far))
-    step
+    (asking_caught owner final past from (view_of before) asking after.worker caught.worker)
 
 -- with no connection yet nothing was asked for, and nothing announced
-asking_first : (standing : Standing) → IsUnused standing.connections → Asking nobody (length (announced_of standing.worker)) (view_of standing)
-asking_first standing new = record {
+pub asking_first : (owner : ℕ → ℕ → ℕ) (final : ℕ → ℕ) (standing : Standing) → IsUnused standing.connections → Asking owner final nobody (length (announced_of standing.worker)) (view_of standing)
+asking_first owner final standing new = record {
   taken = λ key. [];
   has_taken = λ key connection at. absurd (none-some connection (sym (nothing_at standing.connections.by_key.slots (eqb-true _ 0 new.0) key) ∙ at));
   asker = λ number. ended_after 0;
@@ -591,6 +625,8 @@ asking_first standing new = record {
   past_found = λ which worker is. absurd (none-some worker is.is);
   past_in_order = λ one two first second a b earlier same. absurd (none-some first a.is);
   across = λ which worker is number low high same. absurd (none-some worker is.is);
+  owned = λ number low high. let no : ⊥ = omega (arith, low, high) in absurd no;
+  past_owned = λ which worker is. absurd (none-some worker is.is);
 }
 
 -- an element of a list, or the one that was put at its end
@@ -603,8 +639,8 @@ at_end (z ∷ list) x y (suc place) at =
     ⊎_elim (λ inside. inl (omega (arith, inside.0), inside.1)) (λ last. inr (omega (arith, last.0), last.1)) (at_end list x y place at)
 
 -- The next worker takes over, on the next log: the worker's commands are those of an earlier log.
-module _ (past : InTurn) (before worker next : Worker) (live : ℕ → Option Connection) (ended : List Connection)
-    (asking : Asking past (length (announced_of before)) (view worker live ended)) where
+module _ (owner : ℕ → ℕ → ℕ) (final : ℕ → ℕ) (past : InTurn) (before worker next : Worker) (live : ℕ → Option Connection) (ended : List Connection)
+    (asking : Asking owner final past (length (announced_of before)) (view worker live ended)) where
   abbrev now_past : InTurn
   now_past = followed_by past before worker
 
@@ -670,7 +706,13 @@ module _ (past : InTurn) (before worker next : Worker) (live : ℕ → Option Co
   in_order_past one two first second (inr a) (inr b) is_one is_two earlier same =
       asking.past_in_order one two first second (was_earlier one first a is_one) (was_earlier two second b is_two) earlier same
 
-  asking_on_next_log : Asking now_past (length (announced_of next)) (view next live ended)
+  owned_past : (which : Announcement) (one : Worker) (either : (which.log ≡ here) ⊎ (which.log ≢ here)) → WasAnnounced now_past which one →
+      place_of final (asker_then which either) ≡ owner which.log which.number
+  owned_past which one (inl log) is =
+      let it = was_here which one log is in asking.owned which.number it.1 it.2 ∙ ap (λ (log : ℕ). owner log which.number) (asking.as_many ∙ sym log)
+  owned_past which one (inr not) is = asking.past_owned which one (was_earlier which one not is)
+
+  pub asking_on_next_log : Asking owner final now_past (length (announced_of next)) (view next live ended)
   asking_on_next_log = record {
     taken = asking.taken;
     has_taken = asking.has_taken;
@@ -684,19 +726,12 @@ module _ (past : InTurn) (before worker next : Worker) (live : ℕ → Option Co
     past_found = λ which one is. found_past which one (same_key which.log here) is;
     past_in_order = λ one two first second a b earlier same. in_order_past one two first second (same_key one.log here) (same_key two.log here) a b earlier same;
     across = λ which one is number low high same. let no : ⊥ = omega (arith, low, high) in absurd no;
+    owned = λ number low high. let no : ⊥ = omega (arith, low, high) in absurd no;
+    past_owned = λ which one is. owned_past which one (same_key which.log here) is;
   }
 
--- whoever is next, all that was announced was asked for
-asking_in_turn : PartsAddUp → (who : InTurn) (connections : Connections) → HaveServedInTurn who connections → (next : Worker) →
-    Asking who (length (announced_of next)) (view_of (standing next connections))
-asking_in_turn laws _ connections (no_worker _ new) next = asking_first (standing next connections) new
-asking_in_turn laws _ connections (one_on_next_log who first _ until before after served works) next =
-    asking_on_next_log who before after next (connection_at connections) connections.ended.connections
-    (asking_working until who (length (announced_of before)) (standing before first) (standing after connections) (sound_in_turn laws who first served before)
-    (asking_in_turn laws who first served before) works)
-
 -- once no connection is left, all who asked have ended
-module _ (past : InTurn) (from : ℕ) (v : View) (asking : Asking past from v) (nothing : (key : ℕ) → v.live key ≡ None) where
+module _ (owner : ℕ → ℕ → ℕ) (final : ℕ → ℕ) (past : InTurn) (from : ℕ) (v : View) (asking : Asking owner final past from v) (nothing : (key : ℕ) → v.live key ≡ None) where
   is_ended : (worker : Worker) (number : ℕ) (who : Who) (request : ℕ) → Found worker v asking.taken number who request → who ≡ ended_after (number_of who)
   is_ended worker number (ended_after asker) request found = refl
   is_ended worker number (stands_under key) request found = absurd (none-some found.connection (sym (nothing key) ∙ found.there))
@@ -704,26 +739,17 @@ module _ (past : InTurn) (from : ℕ) (v : View) (asking : Asking past from v) (
   has_ended : (which : Announcement) (worker : Worker) → WasAnnounced past which worker → asking.past_asker which ≡ ended_after (number_of (asking.past_asker which))
   has_ended which worker is = is_ended worker which.number (asking.past_asker which) (asking.past_request which) (asking.past_found which worker is)
 
-  have_been_asked : HaveBeenAsked past.begun past.served v.ended
-  have_been_asked = record {
-    asker = λ which. number_of (asking.past_asker which);
-    request = asking.past_request;
-    asked = λ which worker is.
-        subst (λ (who : Who). Found worker v asking.taken which.number who (asking.past_request which)) (has_ended which worker is) (asking.past_found which worker is);
-    in_order = λ one two first second a b earlier same.
-        asking.past_in_order one two first second a b earlier (has_ended one first a ∙ ap ended_after same ∙ sym (has_ended two second b));
+  pub as_asked : ((later earlier : List Connection) (connection : Connection) → v.ended ≡ later ++ connection ∷ earlier →
+      WasAnsweredUnder (λ log number. (owner log number ≡ length earlier) × IsSince past.begun log number) past.served connection) → WereAnsweredAsAsked past.begun past.served v.ended
+  as_asked answered = record {
+    apart = record { owner = owner; answered = answered };
+    asked = record {
+      asker = λ which. number_of (asking.past_asker which);
+      request = asking.past_request;
+      asked = λ which worker is.
+          subst (λ (who : Who). Found worker v asking.taken which.number who (asking.past_request which)) (has_ended which worker is) (asking.past_found which worker is);
+      in_order = λ one two first second a b earlier same.
+          asking.past_in_order one two first second a b earlier (has_ended one first a ∙ ap ended_after same ∙ sym (has_ended two second b));
+    };
+    owns = λ which worker is. sym (ap (place_of final) (has_ended which worker is)) ∙ asking.past_owned which worker is;
   }
-
--- all that workers have announced, one after another, was asked for by those whom they have served
-pub asked_in_turn : PartsAddUp → (who : InTurn) (connections : Connections) → HaveServedInTurn who connections → IsEmpty connections →
-    HaveBeenAsked who.begun who.served connections.ended.connections
-asked_in_turn laws _ connections (no_worker _ new) empty = record {
-  asker = λ which. 0;
-  request = λ which. 0;
-  asked = λ which worker is. absurd (none-some worker is.is);
-  in_order = λ one two first second a b earlier same. absurd (none-some first a.is);
-}
-asked_in_turn laws _ connections (one_on_next_log who first _ until before after served works) empty =
-    have_been_asked (followed_by who before after) (length (announced_of after)) (view_of (standing after connections))
-    (asking_in_turn laws (followed_by who before after) connections (one_on_next_log who first connections until before after served works) after)
-    (nothing_at connections.by_key.slots (eqb-true _ 0 empty))

@@ -537,34 +537,36 @@ module _ {X : Type 0} where
 
 -- where connections end, before one under a key has had its turns: if none is left there, it has ended
 -- behind this many
-abbrev pub final_before : Option Connection → (ℕ → ℕ) → ℕ → ℕ → ℕ → ℕ
-final_before (Some connection) final key many = final
-final_before None final key many = with_at final key many
+abbrev pub final_before : Option Connection → Option Connection → (ℕ → ℕ) → ℕ → ℕ → ℕ → ℕ
+final_before None new final key many = final
+final_before (Some old) (Some new) final key many = final
+final_before (Some old) None final key many = with_at final key many
 
 abbrev pub final_then : (until : Bool) (before after : Standing) → ServesOne until before after → (ℕ → ℕ) → ℕ → ℕ
-final_then until before after one final = final_before (connection_at after.connections one.key) final one.key (length before.connections.ended.connections)
+final_then until before after one final =
+    final_before (connection_at before.connections one.key) (connection_at after.connections one.key) final one.key (length before.connections.ended.connections)
 
 module _ (Own : ℕ → ℕ → ℕ → Type 0) where
   -- one step under a key: the worker goes on, what stays lives, and what has ended was answered
-  record Steps (final : ℕ → ℕ) (past : List Worker) (before after : Standing) (key : ℕ) (new : Option Connection) : Type 0 where
+  record Steps (final : ℕ → ℕ) (past : List Worker) (before after : Standing) (key : ℕ) (old new : Option Connection) : Type 0 where
     onward : Continues before.worker after.worker
     stays : (connection : Connection) → new ≡ Some connection → Lives (Own (final key)) past after.worker connection
-    others : (other : ℕ) → other ≢ key → final_before new final key (length before.connections.ended.connections) other ≡ final other
+    others : (other : ℕ) → other ≢ key → final_before old new final key (length before.connections.ended.connections) other ≡ final other
     ended : AllBy Own past before.worker before.connections.ended.connections → AllBy Own past after.worker after.connections.ended.connections
 
   -- there was none, it stays, or it has ended
   none_there : (final : ℕ → ℕ) (past : List Worker) (before after : Standing) (key : ℕ) → after.worker ≡ before.worker →
-      after.connections.ended.connections ≡ before.connections.ended.connections → Steps final past before after key None
+      after.connections.ended.connections ≡ before.connections.ended.connections → Steps final past before after key None None
   none_there final past before after key still same = record {
     onward = subst (Continues before.worker) (sym still) (continues_self before.worker);
     stays = λ connection is. absurd (none-some connection is);
-    others = λ other not. at_others final key (length before.connections.ended.connections) other not;
+    others = λ other not. refl;
     ended = λ all. subst (λ (worker : Worker). AllBy Own past worker after.connections.ended.connections) (sym still) (subst (AllBy Own past before.worker) (sym same) all);
   }
 
   stays_there : (final : ℕ → ℕ) (until : Bool) (past : List Worker) (before after : Standing) (key : ℕ) (state : State) (old new : Connection) →
       Lives (Own (final key)) past before.worker old → Announces (Own (final key) (length past)) before.worker after.worker → IsServedLater until before.worker after.worker old new state →
-      state ≢ Closed → after.connections.ended.connections ≡ before.connections.ended.connections → Steps final past before after key (Some new)
+      state ≢ Closed → after.connections.ended.connections ≡ before.connections.ended.connections → Steps final past before after key (Some old) (Some new)
   stays_there final until past before after key state old new lives own later isnt same =
       let on = later_onward until before.worker after.worker old new state later in
       record {
@@ -580,7 +582,7 @@ module _ (Own : ℕ → ℕ → ℕ → Type 0) where
       Lives (Own (length before.connections.ended.connections)) past before.worker old →
       Announces (Own (length before.connections.ended.connections) (length past)) before.worker after.worker →
       after.connections.ended.connections ≡ last ∷ before.connections.ended.connections →
-      IsServedLater until before.worker after.worker old last Closed → Steps final past before after key None
+      IsServedLater until before.worker after.worker old last Closed → Steps final past before after key (Some old) None
   ends_there final until past before after key old last lives own same later =
       let on = later_onward until before.worker after.worker old last Closed later in
       let many = length before.connections.ended.connections in
@@ -596,10 +598,10 @@ module _ (Own : ℕ → ℕ → ℕ → Type 0) where
       }
 
   steps_at : (final : ℕ → ℕ) (until : Bool) (past : List Worker) (before after : Standing) (key : ℕ) (state : State) (old new : Option Connection) →
-      ((connection : Connection) → old ≡ Some connection → Lives (Own (final_before new final key (length before.connections.ended.connections) key)) past before.worker connection) →
-      Announces (Own (final_before new final key (length before.connections.ended.connections) key) (length past)) before.worker after.worker →
+      ((connection : Connection) → old ≡ Some connection → Lives (Own (final_before old new final key (length before.connections.ended.connections) key)) past before.worker connection) →
+      Announces (Own (final_before old new final key (length before.connections.ended.connections) key) (length past)) before.worker after.worker →
       Becomes (IsServedLater until before.worker after.worker) (after.worker ≡ before.worker) state before.connections.ended.connections after.connections.ended.connections old new →
-      Steps final past before after key new
+      Steps final past before after key old new
   steps_at final until past before after key state None None lives own becomes = none_there final past before after key becomes.1 becomes.3
   steps_at final until past before after key state None (Some new) lives own becomes = absurd (none-some new (sym becomes.0))
   steps_at final until past before after key state (Some old) (Some new) lives own becomes =

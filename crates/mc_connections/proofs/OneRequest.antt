@@ -1,6 +1,6 @@
 -- A command answers one request of one connection.
 use Rattle.std.proofs.Common.{◌++◌, ◌+◌, ◌<◌, ◌∙◌, ◌∷◌, ◌≡◌, ◌⊎◌, List, Some, [], ap, append_assoc, arith, inl, inr, length, refl, slice_get, subst, suc, sym, true, zero, ℕ, ⊎_elim}
-use Rattle.std.proofs.lemmas.Option.{none-some, same_Some}
+use Rattle.std.proofs.lemmas.Option.{none-some, same_Some, slice_get_within}
 use Rattle.lists.proofs.Public.{at_longer, at_seam}
 use Rattle.mc_conn.specs.Owed.{Mark, demand_of, is_logged}
 use Rattle.mc_conn.specs.declared.conn.Role.{Role}
@@ -10,7 +10,7 @@ use Rattle.mc_connections.proofs.OwnAnnouncements.{later_is_higher, within_marks
 use Rattle.mc_connections.proofs.SeenInOrder.{owes_onward}
 use Rattle.mc_connections.specs.Asking.{IsLogged}
 use Rattle.mc_connections.specs.Life.{IsSince, LogsAreUnder, OwesInLogs, OwesInParts, PartsAreUnder, WereAnsweredApart, and_then, next_log, no_log, none_yet}
-use Rattle.mc_connections.specs.Seen.{IsAnsweredAmong, IsAnsweredInLogs, IsAnsweredInParts, announced_number}
+use Rattle.mc_connections.specs.Seen.{IsAnsweredAmong, IsAnsweredInLogs, IsAnsweredInParts, IsTakenInLogs, announced_number}
 use Rattle.mc_connections.specs.declared.connection.Connection.{Connection}
 use Rattle.mc_model.specs.declared.request.Request.{Request}
 use Rattle.uc_worker.specs.Worker.{IsFull}
@@ -165,16 +165,30 @@ parts_each worker role _ _ _ (and_then requests more bytes others to from last p
 
 pub logs_each : (role : Role) (workers : List Worker) (requests : List Request) (owed : List ℕ) (owes : OwesInLogs role workers requests owed) → (index : ℕ) (request : Request) →
     slice_get requests index ≡ Some request → is_logged (demand_of role request) ≡ true →
-    (log : ℕ) × (worker : Worker) × (slice_get workers log ≡ Some worker) × (((number : ℕ) × IsAnsweredInLogs log number index owes) ⊎ IsFull worker)
+    (log : ℕ) × (worker : Worker) × (slice_get workers log ≡ Some worker) × IsTakenInLogs log index owes
+    × (((number : ℕ) × IsAnsweredInLogs log number index owes) ⊎ IsFull worker)
 logs_each role _ _ _ no_log index request at logged = absurd (none-some request at)
 logs_each role _ _ _ (next_log worker workers requests more bytes others to parts owes) index request at logged =
     ⊎_elim
-    (λ (inside : slice_get requests index ≡ Some request). (0, worker, refl, parts_each worker role requests bytes to parts index request inside logged))
+    (λ (inside : slice_get requests index ≡ Some request).
+    (0, worker, refl, slice_get_within requests index request inside, parts_each worker role requests bytes to parts index request inside logged))
     (λ (later : (there : ℕ) × (index ≡ length requests + there) × (slice_get more there ≡ Some request)).
     let rest = logs_each role workers more others owes later.0 request later.2 logged in (
       suc rest.0,
       rest.1,
       rest.2,
-      ⊎_elim (λ one. inl (one.0, (later.0, one.1, later.1))) (λ full. inr full) rest.3,
+      (later.0, rest.3, later.1),
+      ⊎_elim (λ one. inl (one.0, (later.0, one.1, later.1))) (λ full. inr full) rest.4,
     ))
     (at_either requests more index request at)
+
+-- a request is taken on one log
+pub taken_once : (role : Role) (workers : List Worker) (requests : List Request) (owed : List ℕ) (owes : OwesInLogs role workers requests owed) → (index one other : ℕ) →
+    IsTakenInLogs one index owes → IsTakenInLogs other index owes → one ≡ other
+taken_once role _ _ _ no_log index one other has too = absurd has
+taken_once role _ _ _ (next_log worker workers requests more bytes others to parts owes) index zero zero has too = refl
+taken_once role _ _ _ (next_log worker workers requests more bytes others to parts owes) index zero (suc other) has too = let no : ⊥ = omega (arith, has, too.2) in absurd no
+taken_once role _ _ _ (next_log worker workers requests more bytes others to parts owes) index (suc one) zero has too = let no : ⊥ = omega (arith, too, has.2) in absurd no
+taken_once role _ _ _ (next_log worker workers requests more bytes others to parts owes) index (suc one) (suc other) has too =
+    let same : too.0 ≡ has.0 = omega (arith, has.2, too.2) in
+    ap suc (taken_once role workers more others owes has.0 one other has.1 (subst (λ (later : ℕ). IsTakenInLogs other later owes) same too.1))

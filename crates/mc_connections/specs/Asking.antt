@@ -7,7 +7,7 @@ use Rattle.mc_conn.specs.Owed.{Logs, demand_of}
 use Rattle.mc_conn.specs.declared.conn.Role.{Role}
 use Rattle.mc_model.specs.declared.command.Command.{Command}
 use Rattle.mc_model.specs.declared.request.Request.{Request}
-use Rattle.mc_connections.specs.Life.{came_of}
+use Rattle.mc_connections.specs.Life.{WereAnsweredApart, came_of}
 use Rattle.mc_connections.specs.declared.connection.Connection.{Connection}
 use Rattle.mc_conn.specs.Cited.{ReadsAs}
 use Rattle.uc_worker.specs.declared.worker.Worker.{Worker}
@@ -73,3 +73,13 @@ pub record HaveBeenAsked (before after : List Worker) (ended : List Connection) 
   pub in_order : (one two : Announcement) (first second : Worker) →
       IsAnnounced before after one first → IsAnnounced before after two second →
       IsEarlier one two → asker one ≡ asker two → request one < request two
+
+-- Connections that have ended were answered apart, by workers that went from the first list to the
+-- second, one for one, and each command that was announced meanwhile was asked for by the
+-- connection that owns it. So each connection was answered by commands that it asked for itself.
+pub record WereAnsweredAsAsked (begun served : List Worker) (ended : List Connection) :
+    Type 0 where
+  pub apart : WereAnsweredApart begun served ended
+  pub asked : HaveBeenAsked begun served ended
+  pub owns : (which : Announcement) (worker : Worker) → IsAnnounced begun served which worker →
+      asked.asker which ≡ apart.owner which.log which.number

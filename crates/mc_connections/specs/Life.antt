@@ -41,7 +41,7 @@ pub data OwesInParts (worker : Worker) (role : Role) : List Request → List ℕ
 
 -- The same over logs that followed one another, each with its own worker: the worker of the first
 -- log took the first requests in parts, and those of the other logs took the rest. A log that was
--- served twice counts as two here; that its second part comes later isn't said here.
+-- served twice counts as two here; that the second time comes later isn't said here.
 pub data OwesInLogs (role : Role) : List Worker → List Request → List ℕ → Type 0 where
   no_log : OwesInLogs role [] [] []
   next_log : (worker : Worker) (workers : List Worker) (requests more : List Request)
@@ -128,9 +128,10 @@ IsSince begun log number = (first : Worker) → slice_get begun log ≡ Some fir
     length (announced_of first) ≤ number
 
 -- Connections that have ended, the latest first, were answered by workers that went from the first
--- list to the second, one after another, and no two of them by one command: each number of each log
--- has one owner, which is told by how many had ended before it, and each connection was answered by
--- commands that it owns, and that were announced since the log's worker began.
+-- list to the second, one for one, and no two of them by one command: each number of each log is
+-- given to one of them at most, which is told by how many had ended before it, and each connection
+-- was answered by commands that are given to it, and that were announced since the log's worker
+-- began.
 pub record WereAnsweredApart (begun served : List Worker) (ended : List Connection) : Type 0 where
   pub owner : ℕ → ℕ → ℕ
   pub answered : (later earlier : List Connection) (connection : Connection) →

@@ -3,7 +3,7 @@
 -- Connections are those of memcached's doc/protocol.txt, "Protocol"; that one worker serves several
 -- is this project's profile.
 use mathlib.Core.Logic.{inl, inr}
-use Rattle.std.specs.Prelude.{◌≡◌, ◌⊎◌, ℕ, zero, suc, ◌+◌, ◌≤◌, Bool, true, List, [], ◌∷◌, ◌++◌, length, Some, slice_get}
+use Rattle.std.specs.Prelude.{◌≡◌, ◌⊎◌, ℕ, zero, suc, ◌+◌, ◌<◌, ◌≤◌, Bool, true, List, [], ◌∷◌, ◌++◌, length, Some, slice_get}
 use Rattle.lists.specs.Lists.{BeginsWith}
 use Rattle.mc_conn.specs.Cited.{ReadsAs}
 use Rattle.mc_conn.specs.Held.{lines_of}
@@ -94,6 +94,16 @@ IsAnsweredInLogs zero number index
 IsAnsweredInLogs (suc log) number index
     (next_log worker workers requests more bytes others to parts owes) =
     (later : ℕ) × IsAnsweredInLogs log number later owes × (index ≡ length requests + later)
+
+-- the request of this index is one that the worker of this log took, of all over logs
+abbrev pub IsTakenInLogs : {role : Role} {workers : List Worker} {requests : List Request}
+    {owed : List ℕ} → ℕ → ℕ → OwesInLogs role workers requests owed → Type 0
+IsTakenInLogs log index no_log = ⊥
+IsTakenInLogs zero index (next_log worker workers requests more bytes others to parts owes) =
+    index < length requests
+IsTakenInLogs (suc log) index
+    (next_log worker workers requests more bytes others to parts owes) =
+    (later : ℕ) × IsTakenInLogs log later owes × (index ≡ length requests + later)
 
 -- Of requests that were taken over logs that followed one another, the one of this index was
 -- answered on the last log: after what the workers of the earlier logs owe for the first requests,

@@ -13,14 +13,14 @@ ghost use Rattle.mc_conn.specs.declared.conn.Role.TheVariants.{Admin, Tenant};
 ghost use Rattle.mc_conn.specs.declared.conn.State.{State};
 ghost use Rattle.mc_conn.specs.declared.conn.State.TheVariants.{Busy, Full};
 ghost use Rattle.mc_counters.specs.Tallied.{CountedRequest};
-ghost use Rattle.mc_connections.specs.Asking.{HaveBeenAsked, IsLogged};
+ghost use Rattle.mc_connections.specs.Asking.{HaveBeenAsked, IsLogged, WereAnsweredAsAsked};
 ghost use Rattle.mc_connections.specs.Counting.{HasPlace, held_as, is_of_tenant, with_held_as};
 ghost use Rattle.mc_connections.specs.Holding.{WorkerPlaces};
 ghost use Rattle.mc_connections.specs.InQueue.{WaitsOn};
 ghost use Rattle.mc_connections.specs.InTurn.{HaveServedInTurn, InTurn};
 ghost use Rattle.mc_connections.specs.Life.{OwesInLogs, OwesInParts, WasAnswered, WereAnsweredApart, came_of, sent_of};
 ghost use Rattle.mc_connections.specs.Round.{HaveCome, IsOfConnection, MakesRound, Queued, ServesNext, TellsEnd};
-ghost use Rattle.mc_connections.specs.Seen.{AreAnsweredFrom, IsAnsweredAmong, IsAnsweredInLogs, IsThere, SeesThenAsks, ServesAndAnswers, SplitsAtLast, WasSent, announced_number, history_place};
+ghost use Rattle.mc_connections.specs.Seen.{AreAnsweredFrom, IsAnsweredAmong, IsAnsweredInLogs, IsTakenInLogs, IsThere, SeesThenAsks, ServesAndAnswers, SplitsAtLast, WasSent, announced_number, history_place};
 ghost use Rattle.mc_connections.specs.Serving.{HasComeTo, IsServedLater, answered_between, moved_between, scene_of, tenant_of};
 ghost use Rattle.mc_connections.specs.Sharing.{OnlyTheTurnGoesOn, OthersTakeOneTurnEach, OthersTakeOneTurnPerConnection, RoundsAreServes};
 ghost use Rattle.mc_connections.specs.Tallying.{tally_place};
@@ -277,15 +277,20 @@ pub fn connections_are_answered_apart()
 }
 
 /// Each request that is to be logged, of those that a connection's workers owe for, was answered by
-/// a command, unless its log is full. That is the one that it logs, its worker has announced it, and
-/// it answers no other request: neither of this connection nor of another that has ended.
+/// a command, unless the log of the worker that took it is full, as that worker stands in the list.
+/// The command is the one that the request logs, its worker has announced it, and it answers no
+/// other request: neither of this connection nor of another that has ended.
 pub fn a_command_answers_one_request()
     ensures each { (role : Role) (workers : List Worker) (requests : List Request)
         (owed : List ℕ) (owes : OwesInLogs role workers requests owed) (index : ℕ)
         (request : Request) → slice_get requests index ≡ Some request →
         is_logged (demand_of role request) ≡ true → (log : ℕ) × (worker : Worker)
-        × (slice_get workers log ≡ Some worker)
+        × (slice_get workers log ≡ Some worker) × IsTakenInLogs log index owes
         × (((number : ℕ) × IsAnsweredInLogs log number index owes) ⊎ IsFull worker) }
+    // Its worker is the one that took it: each was taken on one log.
+    ensures taken { (role : Role) (workers : List Worker) (requests : List Request)
+        (owed : List ℕ) (owes : OwesInLogs role workers requests owed) (index one other : ℕ) →
+        IsTakenInLogs one index owes → IsTakenInLogs other index owes → one ≡ other }
     ensures logged { (role : Role) (workers : List Worker) (requests : List Request)
         (owed : List ℕ) (owes : OwesInLogs role workers requests owed)
         (log number index : ℕ) (worker : Worker) → IsAnsweredInLogs log number index owes →
@@ -297,8 +302,9 @@ pub fn a_command_answers_one_request()
         (log number index : ℕ) → IsAnsweredInLogs log number index
         (apart.answered later earlier connection is).answered.owes →
         apart.owner log number ≡ length earlier }
-    // Where a log was served in two parts, which count as two logs here, it answers in one of them:
-    // it was announced since the worker began there.
+    // Where the last log was served twice, which counts as two logs here, a command answers in only
+    // one of the two: it was announced since the worker began to serve that time, by `logged`
+    // before it had served, and in between nothing was announced (`ServesInTwo` of mc_server).
     ensures since { (begun served : List Worker) (ended : List Connection)
         (apart : WereAnsweredApart begun served ended) (later earlier : List Connection)
         (connection : Connection) (is : ended ≡ later ++ connection ∷ earlier)
@@ -356,12 +362,11 @@ pub fn what_a_client_has_seen_comes_first()
         SeesThenAsks until past saw asked answered → Continues saw.worker answered.worker }
 {}
 
-/// Two answers have two announcements, so that no command is answered by another's, also where both
-/// are equal. Of two requests that a worker answers as it serves a connection, the earlier one's
-/// command was announced under the lower number, and they stand at two places of the log. What it
-/// answers in one serve was announced under lower numbers than what it answers in a later one, and
-/// stands at earlier places, whichever connections these are of, and also where the log is served
-/// in two parts.
+/// Two requests that were answered have two announcements, also where they ask for the same. Of two
+/// that a worker answers as it serves a connection, the later one's command was announced under the
+/// higher number, and they stand at two places of the log. What it answers in one serve was
+/// announced under lower numbers than what it answers in a later one, and stands at earlier places,
+/// whichever connections these are of, and also where the log is served twice.
 pub fn two_answers_have_two_announcements()
     ensures serve { (worker : Worker) (role : Role) (mark : Mark) (requests : List Request)
         (owed : List ℕ) (first second : ℕ)
@@ -369,7 +374,7 @@ pub fn two_answers_have_two_announcements()
         (two : IsAnsweredAmong worker role mark requests owed second) → first < second →
         (announced_number one < announced_number two)
         × (history_place one ≢ history_place two) }
-    // Each is one of the numbers of what the worker owes there, from mark to mark.
+    // The number of each is from the first mark of what is owed on, and below the last one.
     ensures within { (worker : Worker) (role : Role) (from to : Mark) (requests : List Request)
         (owed : List ℕ) → Owes worker role from requests owed to → (index : ℕ)
         (one : IsAnsweredAmong worker role from requests owed index) →
@@ -387,6 +392,17 @@ pub fn two_answers_have_two_announcements()
 pub fn commands_are_asked_for_over_logs()
     ensures { (who : InTurn) (connections : Connections) → HaveServedInTurn who connections →
         IsEmpty connections → HaveBeenAsked who.begun who.served connections.ended.connections }
+{
+    mc_conn::laws::parts_add_up();
+}
+
+/// Once no connection is left, the connections that have ended were answered apart, and each
+/// command that a worker has announced since it began to serve was asked for by the connection that
+/// owns it. So where two connections ask for the same, neither is answered by the other's command.
+pub fn commands_answer_who_asked()
+    ensures { (who : InTurn) (connections : Connections) → HaveServedInTurn who connections →
+        IsEmpty connections →
+        WereAnsweredAsAsked who.begun who.served connections.ended.connections }
 {
     mc_conn::laws::parts_add_up();
 }

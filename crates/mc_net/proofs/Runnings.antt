@@ -3,9 +3,8 @@ use Rattle.std.proofs.Common.{◌≡◌, ℕ, ◌<◌, suc, Bool, true, false, L
 use Rattle.std.specs.List.{AllZip}
 use Rattle.std.proofs.Math.Seq.{take-append_seam}
 use Rattle.std.proofs.lemmas.List.Elements.{AllZip-get_or, All-cons, All-head, All-nil, All-tail, length_all_zip}
-use Rattle.mc_connections.specs.Asking.{HaveBeenAsked}
+use Rattle.mc_connections.specs.Asking.{HaveBeenAsked, WereAnsweredAsAsked}
 use Rattle.mc_connections.specs.InTurn.{HaveServedInTurn, InTurn, nobody, no_worker, one_on_next_log}
-use Rattle.mc_connections.specs.Life.{WereAnsweredApart}
 use Rattle.mc_connections.specs.Working.{IsEmpty, Standing, Works, standing}
 use Rattle.mc_connections.specs.declared.connections.Connections.{Connections}
 use Rattle.mc_net.specs.Returning.{HasAnswered, HasBeenAsked, HasServed, returned_of, returned_worker}
@@ -194,7 +193,7 @@ one_log worker back served =
 
 -- the laws of what was answered and asked
 abbrev pub AreAnswered : Type 0
-AreAnswered = (who : InTurn) (connections : Connections) → HaveServedInTurn who connections → WereAnsweredApart who.begun who.served connections.ended.connections
+AreAnswered = (who : InTurn) (connections : Connections) → HaveServedInTurn who connections → IsEmpty connections → WereAnsweredAsAsked who.begun who.served connections.ended.connections
 
 abbrev pub AreAsked : Type 0
 AreAsked = (who : InTurn) (connections : Connections) → HaveServedInTurn who connections → IsEmpty connections → HaveBeenAsked who.begun who.served connections.ended.connections
@@ -204,8 +203,8 @@ all_have_answered law [] [] served = tt
 all_have_answered law [] (z ∷ zs) served = absurd served
 all_have_answered law (x ∷ xs) [] served = absurd served
 all_have_answered law (x ∷ xs) (z ∷ zs) served = (
-  subst (λ past. WereAnsweredApart (x ∷ []) (z.worker ∷ []) past.connections) served.0.ended
-      (law (record { begun = x ∷ []; served = z.worker ∷ [] }) served.0.last (one_log x z served.0)),
+  subst (λ past. WereAnsweredAsAsked (x ∷ []) (z.worker ∷ []) past.connections) served.0.ended
+      (law (record { begun = x ∷ []; served = z.worker ∷ [] }) served.0.last (one_log x z served.0) served.0.over),
   all_have_answered law xs zs served.1,
 )
 

@@ -1,7 +1,6 @@
 -- What comes back of workers that have served on one log; this project's profile.
 use Rattle.std.specs.Prelude.{◌≡◌, List, [], ◌∷◌, false}
-use Rattle.mc_connections.specs.Asking.{HaveBeenAsked}
-use Rattle.mc_connections.specs.Life.{WereAnsweredApart}
+use Rattle.mc_connections.specs.Asking.{HaveBeenAsked, WereAnsweredAsAsked}
 use Rattle.mc_connections.specs.Working.{IsEmpty, IsUnused, Works, standing}
 use Rattle.mc_connections.specs.declared.connections.Connections.{Connections}
 use Rattle.mc_net.specs.declared.event_loop.EventLoop.{EventLoop}
@@ -32,10 +31,10 @@ pub record HasServed (worker : Worker) (back : Returned) : Type 0 where
   pub over : IsEmpty last
   pub ended : last.ended ≡ back.ended
 
--- each connection that the worker has served was answered, and no two by one command
+-- each connection that the worker has served was answered, by commands that it has asked for itself
 abbrev pub HasAnswered : Worker → Returned → Type 0
 HasAnswered worker back =
-    WereAnsweredApart (worker ∷ []) (back.worker ∷ []) back.ended.connections
+    WereAnsweredAsAsked (worker ∷ []) (back.worker ∷ []) back.ended.connections
 
 -- each command that the worker has announced meanwhile was asked for by one of them
 abbrev pub HasBeenAsked : Worker → Returned → Type 0

@@ -74,8 +74,9 @@ pub fn serve<'a, R: Threads + Wait + Net + Sync, G: Gate + Send + Drop, B: Begin
         (λ back. AllZip Continues workers.entry.items (map returned_worker back.items)) }
     // It admitted arrivals and served connections until none was left.
     ensures served { IfOk result (λ back. AllZip HasServed workers.entry.items back.items) }
-    // Each connection that it admitted has ended. It was sent what it is owed or, after a fault, a
-    // prefix of that and of the fault's words, and none was answered by a command of another.
+    // Each connection that it admitted has ended. The connection was sent what it is owed or, after
+    // a fault, a prefix of that and of the fault's words, and was answered by commands that it has
+    // asked for.
     ensures answered { IfOk result
         (λ back. AllZip HasAnswered workers.entry.items back.items) }
     // Each command that it announced is one request of one of these, in order, and none twice.
@@ -94,7 +95,7 @@ pub fn serve<'a, R: Threads + Wait + Net + Sync, G: Gate + Send + Drop, B: Begin
 {
     // The laws from which the clauses on what was answered and asked follow.
     mc_connections::laws::work_adds_up();
-    mc_connections::laws::connections_are_answered_apart();
+    mc_connections::laws::commands_answer_who_asked();
     mc_connections::laws::commands_are_asked_for_over_logs();
     // No tenant has a reserve, the only log is closed at its last place, and nobody looks on.
     let settings = FrontSettings {

@@ -7,9 +7,8 @@ use Rattle.std.proofs.lemmas.List.Elements.{All-cons, All-contains, All-head, Al
 use Rattle.std.proofs.lemmas.Option.{none-some, same_Some}
 use Rattle.std.proofs.lemmas.Slice.Zip.{AllZip-long}
 use Rattle.std.specs.List.{AllZip}
-use Rattle.mc_connections.specs.Asking.{HaveBeenAsked}
+use Rattle.mc_connections.specs.Asking.{WereAnsweredAsAsked}
 use Rattle.mc_connections.specs.InTurn.{HaveServedInTurn, InTurn, no_worker, nobody}
-use Rattle.mc_connections.specs.Life.{WereAnsweredApart}
 use Rattle.mc_connections.specs.Working.{IsEmpty}
 use Rattle.mc_connections.specs.declared.connections.Connections.{Connections}
 use Rattle.mc_model.specs.declared.shown.LogSize.{LogSize}
@@ -137,36 +136,32 @@ one_more_few logs number most next more is fits then =
     inr (omega (arith, is, then, exact), omega (arith, is, below)))
     more
 
--- the laws of what was answered and asked
+-- the law of what was answered and asked
 abbrev pub AreAnswered : Type 0
-AreAnswered = (who : InTurn) (connections : Connections) → HaveServedInTurn who connections → WereAnsweredApart who.begun who.served connections.ended.connections
-
-abbrev pub AreAsked : Type 0
-AreAsked = (who : InTurn) (connections : Connections) → HaveServedInTurn who connections → IsEmpty connections → HaveBeenAsked who.begun who.served connections.ended.connections
+AreAnswered = (who : InTurn) (connections : Connections) → HaveServedInTurn who connections → IsEmpty connections → WereAnsweredAsAsked who.begun who.served connections.ended.connections
 
 -- the connections that have ended at the event loop, the latest first
 abbrev ended_at : EventLoop → List Connection
 ended_at event_loop = event_loop.ready.connections.ended.connections
 
-all_answered : AreAnswered → AreAsked → (who : List InTurn) (loops : List EventLoop) → AllZip HasBeenServedBy who loops → All IsEmptyLoop loops → AllZip IsAnsweredBy who (map ended_at loops)
-all_answered answered asked [] [] by over = tt
-all_answered answered asked [] (z ∷ zs) by over = absurd by
-all_answered answered asked (x ∷ xs) [] by over = absurd by
-all_answered answered asked (x ∷ xs) (z ∷ zs) by over = (
+all_answered : AreAnswered → (who : List InTurn) (loops : List EventLoop) → AllZip HasBeenServedBy who loops → All IsEmptyLoop loops → AllZip IsAnsweredBy who (map ended_at loops)
+all_answered answered [] [] by over = tt
+all_answered answered [] (z ∷ zs) by over = absurd by
+all_answered answered (x ∷ xs) [] by over = absurd by
+all_answered answered (x ∷ xs) (z ∷ zs) by over = (
   record {
-    answered = answered x z.ready.connections by.0;
-    asked = asked x z.ready.connections by.0 (All-head IsEmptyLoop z zs over);
+    answered = answered x z.ready.connections by.0 (All-head IsEmptyLoop z zs over);
     last = z.ready.connections;
     in_turn = by.0;
     none_left = All-head IsEmptyLoop z zs over;
     are = refl;
   },
-  all_answered answered asked xs zs by.1 (All-tail IsEmptyLoop z zs over),
+  all_answered answered xs zs by.1 (All-tail IsEmptyLoop z zs over),
 )
 
-were_served : AreAnswered → AreAsked → (settings : Configuration) (most logs places last number : ℕ) (front : Front) → IsFrontOf settings front → EndsThere settings logs places last front →
+were_served : AreAnswered → (settings : Configuration) (most logs places last number : ℕ) (front : Front) → IsFrontOf settings front → EndsThere settings logs places last front →
     (most ≡ 0) ⊎ (logs < most) → number ≡ places + last → WereServed settings most number
-were_served answered asked settings most logs places last number front fits ends few total = record {
+were_served answered settings most logs places last number front fits ends few total = record {
   logs = logs;
   places = places;
   last = last;
@@ -179,15 +174,15 @@ were_served answered asked settings most logs places last number front fits ends
   met = ends.met;
   closes = ends.closes;
   ended = map ended_at front.event_loops.items;
-  answered = all_answered answered asked ends.all front.event_loops.items ends.by ends.over;
+  answered = all_answered answered ends.all front.event_loops.items ends.by ends.over;
   in_total = total;
 }
 
-pub were_served_at : AreAnswered → AreAsked → (settings : Configuration) (most logs places last number : ℕ) (front : Front) → IsFrontOf settings front → EndsThere settings logs places last front →
+pub were_served_at : AreAnswered → (settings : Configuration) (most logs places last number : ℕ) (front : Front) → IsFrontOf settings front → EndsThere settings logs places last front →
     (most ≡ 0) ⊎ (logs < most) → number ≡ places + last → WereServedAt settings most number front
 unfolding were_served
-were_served_at answered asked settings most logs places last number front fits ends few total = record {
-  were = were_served answered asked settings most logs places last number front fits ends few total;
+were_served_at answered settings most logs places last number front fits ends few total = record {
+  were = were_served answered settings most logs places last number front fits ends few total;
   by = ends.by;
   over = ends.over;
 }

@@ -4,9 +4,8 @@
 use denote.Struct.Props.{props}
 use Rattle.std.specs.List.{AllZip}
 use Rattle.std.specs.Prelude.{◌≡◌, ◌⊎◌, ◌<◌, ◌≤◌, ⊤, ℕ, ◌+◌, Bool, false, List, [], All, MatchResult, Option, None, Result, Some, length, slice_get, vec_len}
-use Rattle.mc_connections.specs.Asking.{HaveBeenAsked}
+use Rattle.mc_connections.specs.Asking.{WereAnsweredAsAsked}
 use Rattle.mc_connections.specs.InTurn.{HaveServedInTurn, InTurn, nobody}
-use Rattle.mc_connections.specs.Life.{WereAnsweredApart}
 use Rattle.mc_connections.specs.Working.{IsEmpty}
 use Rattle.mc_connections.specs.declared.connection.Connection.{Connection}
 use Rattle.mc_connections.specs.declared.connections.Connections.{Connections}
@@ -84,8 +83,8 @@ pub data LogsWere (settings : Configuration) : ℕ → ℕ → List InTurn → L
       Closes served used after →
       LogsWere settings (logs + 1) (places + used) (each_followed_by who begun served) after
 
--- Workers served on one log in two parts: after its first part they caught up, and as no log could
--- follow, they went on with it.
+-- Workers served on one log twice: after the first time they caught up, and as no log could follow,
+-- they went on with it.
 pub record ServesInTwo (who : List InTurn) (begun served : List Worker)
     (all : List InTurn) : Type 0 where
   pub full : List Worker
@@ -95,7 +94,7 @@ pub record ServesInTwo (who : List InTurn) (begun served : List Worker)
   pub second : AllZip Continues again served
   pub in_turn : all ≡ each_followed_by (each_followed_by who begun full) again served
 
--- The last log was served, in one part or in two, after these logs: its workers come back as these,
+-- The last log was served, once or twice, after these logs: its workers come back as these,
 -- and all who have served are these.
 pub record ServesLast (settings : Configuration) (logs places : ℕ) (all : List InTurn)
     (served : List Worker) : Type 0 where
@@ -108,12 +107,12 @@ pub record ServesLast (settings : Configuration) (logs places : ℕ) (all : List
   pub parts : AllZip Continues begun served × (all ≡ each_followed_by who begun served)
       ⊎ ServesInTwo who begun served all
 
--- Each connection that has ended was answered over all logs, no two of them by one command, and all
--- that these workers have announced was asked for by one of them. All these were served one after
--- another, from when there was no connection until none was left.
+-- Each connection that has ended was answered over all logs, by commands that it has asked for, no
+-- two connections by one command, and each command that these workers have announced since they
+-- began was asked for by one of the connections. The workers served one after another, from when
+-- there was no connection until none was left.
 pub record IsAnsweredBy (who : InTurn) (ended : List Connection) : Type 0 where
-  pub answered : WereAnsweredApart who.begun who.served ended
-  pub asked : HaveBeenAsked who.begun who.served ended
+  pub answered : WereAnsweredAsAsked who.begun who.served ended
   pub last : Connections
   pub in_turn : HaveServedInTurn who last
   pub none_left : IsEmpty last

@@ -322,9 +322,8 @@ pub(crate) fn serve_logs<R: Threads + Wait + Clock + Sync, B: Begin<S>, S>(
     ensures outcome { MatchResult result (λ _. B.done begin.now state.old state.new)
         (HaltsServing (B.done begin.now) (B.stopped begin.now) state.old state.new) }
 {
-    // The laws from which it follows that all were answered and asked for.
-    mc_connections::laws::connections_are_answered_apart();
-    mc_connections::laws::commands_are_asked_for_over_logs();
+    // The law from which it follows that all were answered, by what they asked for.
+    mc_connections::laws::commands_answer_who_asked();
     let mut number = 1;
     let mut total = 0;
     let mut is_last = is_last_log(most, number, total);

@@ -1,4 +1,4 @@
-use Rattle.mc_connections.proofs.Askings.{asked_in_turn}
+use Rattle.mc_connections.proofs.Owners.{asked_in_turn}
 use Rattle.mc_connections.proofs.laws.commands_are_asked_for_over_logs.Goals as goal
 
 pub returns : goal.returns

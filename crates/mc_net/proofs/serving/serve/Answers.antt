@@ -15,7 +15,7 @@ pub returns-clause-back : goal.returns-clause-back
 returns-clause-back g c = all_onward _ _ (returns-clause-served g c)
 
 pub returns-clause-answered : goal.returns-clause-answered
-returns-clause-answered g c = all_have_answered c.connections_are_answered_apart.ensures _ _ (returns-clause-served g c)
+returns-clause-answered g c = all_have_answered c.commands_answer_who_asked.ensures _ _ (returns-clause-served g c)
 
 pub returns-clause-asked : goal.returns-clause-asked
 returns-clause-asked g c = all_have_been_asked c.commands_are_asked_for_over_logs.ensures _ _ (returns-clause-served g c)

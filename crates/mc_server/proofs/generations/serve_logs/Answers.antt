@@ -26,7 +26,7 @@ pub returns-in-Done-clause-served : goal.returns-in-Done-clause-served
 returns-in-Done-clause-served g c =
     let so_far = c.loop.invariant.so_far in
     let ends = subst (ServesTo c.args.opened.log.settings c.loop.is_last so_far.0 c.loop.total c.loop.front) c.in-Done.is so_far.1 in
-    were_served_at c.connections_are_answered_apart.ensures c.commands_are_asked_for_over_logs.ensures c.args.opened.log.settings c.args.most so_far.0 c.loop.total c.in-Done.last _ c.loop.front c.loop.invariant.front ends
+    were_served_at c.commands_answer_who_asked.ensures c.args.opened.log.settings c.args.most so_far.0 c.loop.total c.in-Done.last _ c.loop.front c.loop.invariant.front ends
     (⊎_elim (λ none. inl none) (λ few. inr few.1) so_far.2) refl
 
 -- the next log was served
